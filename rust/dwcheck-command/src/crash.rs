@@ -39,7 +39,9 @@ impl Crash {
             let line = status.lines().find_map(|line| line.strip_prefix(key)).unwrap_or("");
             line.split_ascii_whitespace().filter_map(|word| word.parse().ok()).collect()
         };
-        let program = fs::read_link(format!("/proc/{}/exe", id)).ok();
+        // The first thread may have ended before others.
+        let threads = fs::read_dir(format!("/proc/{}/task", id)).into_iter().flatten().flatten();
+        let program = threads.map(|thread| fs::read_link(thread.path().join("exe"))).find_map(Result::ok);
         let since = SystemTime::now().duration_since(UNIX_EPOCH);
         Crash {
             id,

@@ -22,12 +22,16 @@ int main(int count, char **words) {
 }
 ";
 
+/// Tests run beside others, and the program isn't optimized for them.
+const PATIENT: &str = "--time-limit 300";
+
 /// Runs a program in gdb until a signal ends it, makes its core file, and runs a handler with each of some options, after a
 /// command of the shell.
 fn handle(folder: &Folder, program: &str, runs: &[(&str, &str)]) -> Vec<Ran> {
     let mut script = String::from("set startup-with-shell off\nrun\ngcore core\n");
     for (number, (before, options)) in runs.iter().enumerate() {
-        let words = format!("{}; {} stack --handler %d {}", before, env!("CARGO_BIN_EXE_dwcheck-elf"), options);
+        let words =
+            format!("{}; {} stack {} --handler %d {}", before, env!("CARGO_BIN_EXE_dwcheck-elf"), PATIENT, options);
         let line = format!("{0} < core > out.{1} 2> error.{1}; echo $? > status.{1}", words, number);
         script += &format!("python gdb.execute('shell {}' % gdb.selected_inferior().pid)\n", line);
     }
@@ -147,7 +151,8 @@ fn streams_that_end_too_early() {
     folder.make_core("./program");
     let (whole, notes_end) = as_the_kernel_writes(&folder.bytes("core"));
     folder.write("whole", &whole);
-    let handler = format!("{} stack --json --no-source --handler 4194304", env!("CARGO_BIN_EXE_dwcheck-elf"));
+    let program = env!("CARGO_BIN_EXE_dwcheck-elf");
+    let handler = format!("{} stack {} --json --no-source --handler 4194304", program, PATIENT);
     let report = |size: usize| -> (i32, Value) {
         let status = folder.run(&format!("head -c {} whole | {} > out 2> error; echo $?", size, handler));
         let error = String::from_utf8_lossy(&folder.bytes("error")).into_owned();
@@ -172,11 +177,11 @@ fn a_handler_is_alone_and_ends() {
     if !may_trace() {
         return;
     }
-    let handler = format!("{} stack --time-limit 2 --handler $p", env!("CARGO_BIN_EXE_dwcheck-elf"));
+    let handler = format!("{} stack --time-limit 5 --handler $p", env!("CARGO_BIN_EXE_dwcheck-elf"));
     let script = format!(
-        "sleep 60 & p=$!; (sleep 8 | {0} > first 2> error; echo $? > status) & sleep 0.7; {0} < /dev/null > second 2>&1; \
+        "sleep 60 & p=$!; ({0} < <(sleep 60) > first 2> error; echo $? > status) & sleep 2; {0} < /dev/null > second 2>&1; \
          second=$?; begun=$SECONDS; while [ ! -s status ]; do sleep 0.1; done; kill $p; \
-         echo $second $(cat status) $((SECONDS - begun < 5))",
+         echo $second $(cat status) $((SECONDS - begun < 20))",
         handler
     );
     assert_eq!(folder.run(&script), "3 3 1\n");
@@ -184,7 +189,7 @@ fn a_handler_is_alone_and_ends() {
     assert!(text("second").ends_with(": another handler works on it\n"), "{}", text("second"));
     assert!(text("first").contains("\"sleep\" of user "), "{}", text("first"));
     assert!(
-        text("first").ends_with("the report isn't whole: it takes more time than its limit, 2 s\n"),
+        text("first").ends_with("the report isn't whole: it takes more time than its limit, 5 s\n"),
         "{}",
         text("first")
     );
