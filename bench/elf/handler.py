@@ -17,6 +17,7 @@ import contextlib
 import os
 import pathlib
 import re
+import signal
 import subprocess
 import sys
 import tempfile
@@ -77,6 +78,15 @@ int main(int count, char **words) {
 }
 """
 WAYS = ["null", "assert", "qsort", "overflow", "handler", "fault"]
+FRAMES = """set backtrace past-main on
+python
+frame, count = gdb.newest_frame(), 0
+while frame is not None and count < 60:
+    if frame.type() not in (gdb.INLINE_FRAME, gdb.TAILCALL_FRAME):
+        print('frame', '%#018x' % frame.pc())
+    frame, count = frame.older(), count + 1
+end
+"""
 # Runs the handler, and writes how long it took and how much memory.
 MEASURE = """#!/usr/bin/env python3
 import resource, subprocess, sys, time
@@ -121,10 +131,11 @@ def frames(text):
     return [[line for line in thread if line.startswith(("#", "stop", "tail"))] for thread in threads]
 
 
-def by_gdb(program, core):
-    shown = subprocess.run(["gdb", "--batch", "-ex", "set backtrace past-main on", "-ex", "bt 60", program, core],
-                           capture_output=True, text=True).stdout
-    return re.findall(r"^#\d+ +(0x[0-9a-f]+) in", shown, re.MULTILINE)
+def by_gdb(folder, program, core):
+    """The addresses of the first frames that gdb finds by unwinding."""
+    (folder / "frames.gdb").write_text(FRAMES)
+    shown = subprocess.run(["gdb", "--batch", "-x", "frames.gdb", program, core], cwd=folder, capture_output=True, text=True)
+    return re.findall(r"^frame (0x[0-9a-f]+)", shown.stdout, re.MULTILINE)
 
 
 def report_of(folder):
@@ -139,15 +150,14 @@ def compare(program, folder):
     crashing = compiled(folder, "crashes", CRASHES)
     different = 0
     for way in WAYS:
-        with core_pattern(f"|{program} stack --handler %P --output {folder}/reports"):
+        with core_pattern(f"|{program} stack --handler %P --time-limit 60 --output {folder}/reports"):
             crash([crashing, way])
         report = report_of(folder)
         with core_pattern("core"):
             crash([crashing, way])
         core = next(folder.glob("core*"))
         by_core = subprocess.run([program, "stack", core], capture_output=True, text=True).stdout
-        theirs, ours = by_gdb(crashing, core), frames(report)
-        # gdb's first frame has no address if it is at the beginning of a line; inlined frames have none either.
+        theirs, ours = by_gdb(folder, crashing, core), frames(report)
         shown = {line.split()[1] for line in ours[0] if line.startswith("#")} if ours else set()
         missing = [address for address in theirs if address not in shown]
         same = ours == frames(by_core) and ours
@@ -162,7 +172,7 @@ def measure(program, folder, words):
     (folder / "measure").write_text(MEASURE)
     (folder / "measure").chmod(0o755)
     crashing = compiled(folder, "threads", MANY_THREADS)
-    pattern = f"|{folder}/measure {folder}/log {program} stack --handler %P --output {folder}/reports {' '.join(words.options)}"
+    pattern = f"|{folder}/measure {folder}/log {program} stack --handler %P --time-limit 60 --output {folder}/reports {' '.join(words.options)}"
     if len(pattern) > 127:
         sys.exit("the kernel takes no pattern of more than 127 bytes")
     arguments = [crashing, words.threads, words.gigabytes, words.touched]
@@ -178,7 +188,7 @@ def measure(program, folder, words):
 
 def many(program, folder, count):
     crashing = compiled(folder, "crashes", CRASHES)
-    with core_pattern(f"|{program} stack --handler %P --output {folder}/reports --keep 1000"):
+    with core_pattern(f"|{program} stack --handler %P --time-limit 60 --output {folder}/reports --keep 1000"):
         begun = time.monotonic()
         started = [subprocess.Popen([crashing, "qsort"], stderr=subprocess.DEVNULL) for _ in range(count)]
         for one in started:
@@ -200,6 +210,8 @@ def main():
     words.add_argument("--count", type=int, default=100)
     words.add_argument("options", nargs="*")
     words = words.parse_args()
+    # Also if it is ended from outside, core_pattern is put back.
+    signal.signal(signal.SIGTERM, lambda *_: sys.exit(1))
     program = os.path.abspath(words.program)
     with tempfile.TemporaryDirectory(dir="/var/tmp", prefix="h") as name:
         folder = pathlib.Path(name)
