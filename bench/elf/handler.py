@@ -91,9 +91,9 @@ end
 MEASURE = """#!/usr/bin/env python3
 import resource, subprocess, sys, time
 begun = time.monotonic()
-status = subprocess.run(sys.argv[2:]).returncode
+status = subprocess.run(WORDS + sys.argv[1:]).returncode
 took = time.monotonic() - begun
-with open(sys.argv[1], "a") as file:
+with open(sys.argv[0] + ".log", "a") as file:
     print(status, took, resource.getrusage(resource.RUSAGE_CHILDREN).ru_maxrss, file=file)
 """
 
@@ -139,8 +139,9 @@ def by_gdb(folder, program, core):
 
 
 def report_of(folder):
+    """The longest report: another program may have crashed meanwhile."""
     reports = list((folder / "reports").glob("crash.*"))
-    text = reports[0].read_text() if len(reports) == 1 else ""
+    text = max((report.read_text() for report in reports), key=len, default="")
     for report in reports:
         report.unlink()
     return text
@@ -150,7 +151,7 @@ def compare(program, folder):
     crashing = compiled(folder, "crashes", CRASHES)
     different = 0
     for way in WAYS:
-        with core_pattern(f"|{program} stack --handler %P --time-limit 60 --output {folder}/reports"):
+        with core_pattern(f"|{program} stack --handler %P --output {folder}/reports"):
             crash([crashing, way])
         report = report_of(folder)
         with core_pattern("core"):
@@ -169,26 +170,26 @@ def compare(program, folder):
 
 
 def measure(program, folder, words):
-    (folder / "measure").write_text(MEASURE)
+    # The kernel takes a pattern of at most 127 bytes.
+    command = [program, "stack", "--output", f"{folder}/reports", *words.options, "--handler"]
+    (folder / "measure").write_text(MEASURE.replace("WORDS", repr(command)))
     (folder / "measure").chmod(0o755)
     crashing = compiled(folder, "threads", MANY_THREADS)
-    pattern = f"|{folder}/measure {folder}/log {program} stack --handler %P --time-limit 60 --output {folder}/reports {' '.join(words.options)}"
-    if len(pattern) > 127:
-        sys.exit("the kernel takes no pattern of more than 127 bytes")
     arguments = [crashing, words.threads, words.gigabytes, words.touched]
     with core_pattern("|/bin/true"):
         alone = crash(arguments)
-    with core_pattern(pattern):
+    with core_pattern(f"|{folder}/measure %P"):
         took = crash(arguments)
     report = report_of(folder)
-    status, handler, memory = (folder / "log").read_text().split()
+    runs = [line.split() for line in (folder / "measure.log").read_text().splitlines()]
+    status, handler, memory = max(runs, key=lambda run: float(run[1]))
     print(f"threads {len(frames(report))} report {len(report)} bytes; status {status}; handler {float(handler):.3f} s; memory "
           f"{int(memory) / 1024:.1f} MB; the process {took:.3f} s, with a handler that does nothing {alone:.3f} s")
 
 
 def many(program, folder, count):
     crashing = compiled(folder, "crashes", CRASHES)
-    with core_pattern(f"|{program} stack --handler %P --time-limit 60 --output {folder}/reports --keep 1000"):
+    with core_pattern(f"|{program} stack --handler %P --output {folder}/reports --keep 1000"):
         begun = time.monotonic()
         started = [subprocess.Popen([crashing, "qsort"], stderr=subprocess.DEVNULL) for _ in range(count)]
         for one in started:

@@ -179,7 +179,7 @@ fn a_handler_is_alone_and_ends() {
     }
     let handler = format!("{} stack --time-limit 5 --handler $p", env!("CARGO_BIN_EXE_dwcheck-elf"));
     let script = format!(
-        "sleep 60 & p=$!; ({0} < <(sleep 60) > first 2> error; echo $? > status) & sleep 2; {0} < /dev/null > second 2>&1; \
+        "sleep 60 & p=$!; ({0} < <(sleep 30 2> /dev/null) > first 2> error; echo $? > status) & sleep 2; {0} < /dev/null > second 2>&1; \
          second=$?; begun=$SECONDS; while [ ! -s status ]; do sleep 0.1; done; kill $p; \
          echo $second $(cat status) $((SECONDS - begun < 20))",
         handler
