@@ -189,10 +189,13 @@ pub struct LocsArguments {
 
 #[derive(Args, Debug)]
 pub struct StackArguments {
-    /// A core file or a minidump of x86-64, i386 or aarch64; before it, the program, if it isn't where the core file
-    /// says
-    #[arg(value_name = "[PROGRAM] CORE", num_args = 1..=2, required_unless_present = "pid")]
+    /// A core file or a minidump of x86-64, i386 or aarch64, which may be compressed by zstd, lz4, xz or gzip; before it,
+    /// the program, if it isn't where the core file says
+    #[arg(value_name = "[PROGRAM] CORE", num_args = 1..=2, required_unless_present_any = ["core", "pid", "handler"])]
     pub files: Vec<PathBuf>,
+    /// The core file, as debuggers take it, such as by coredumpctl debug --debugger=dwcheck-elf -A stack
+    #[arg(short, long, value_name = "CORE", conflicts_with = "pid")]
+    pub core: Option<PathBuf>,
     /// Print the stacks of this process, which goes on as soon as they are copied
     #[arg(long, value_name = "PID", conflicts_with_all = ["files", "root", "path"])]
     pub pid: Option<u32>,
@@ -244,6 +247,44 @@ pub struct StackArguments {
     /// Write one document of JSON, whose keys docs/OUTPUT.md lists
     #[arg(long)]
     pub json: bool,
+    #[command(flatten)]
+    pub handler: HandlerArguments,
+}
+
+/// How a crash is reported as it happens.
+#[derive(Args, Debug)]
+pub struct HandlerArguments {
+    /// Report the crash of this process, which the kernel passes to a program that core_pattern names: registers come from
+    /// its core file on standard input, memory from the process
+    #[arg(long, value_name = "PID", conflicts_with_all = ["files", "core", "pid", "root", "path"])]
+    pub handler: Option<u32>,
+    /// With --handler: write the report to a new file in this folder, which is made if it isn't there
+    #[arg(long, value_name = "FOLDER", requires = "handler")]
+    pub output: Option<PathBuf>,
+    /// With --handler: write the report to syslog, or with --json a line about it
+    #[arg(long, requires = "handler")]
+    pub syslog: bool,
+    /// With --handler: write the report to systemd's journal, where coredumpctl finds it, or with --json a line about it
+    #[arg(long, requires = "handler")]
+    pub journal: bool,
+    /// With --handler: hold the process no longer than this
+    #[arg(long, value_name = "SECONDS", default_value_t = 10, value_parser = clap::value_parser!(u64).range(1..=3600))]
+    pub time_limit: u64,
+    /// With --handler: take no more memory than this, in megabytes
+    #[arg(long, value_name = "MB", default_value_t = 256, value_parser = clap::value_parser!(u64).range(16..))]
+    pub memory_limit: u64,
+    /// With --output: keep this many reports in the folder, the newest ones
+    #[arg(long, value_name = "N", default_value_t = 100)]
+    pub keep: usize,
+    /// With --output: keep reports that have at most so many megabytes together
+    #[arg(long, value_name = "MB", default_value_t = 100)]
+    pub keep_megabytes: u64,
+    /// With --output: keep no report that is older
+    #[arg(long, value_name = "DAYS", default_value_t = 30)]
+    pub keep_days: u64,
+    /// With --output: the rights of the files of reports
+    #[arg(long, value_name = "MODE", default_value = "600")]
+    pub mode: String,
 }
 
 #[derive(Args, Debug)]

@@ -4,7 +4,9 @@
 mod arguments;
 mod check;
 mod compare;
+mod crash;
 mod end;
+mod handler;
 mod lint;
 mod lists;
 mod opened;
@@ -60,7 +62,10 @@ fn run_command(command: Command, out: &mut impl Write) -> Result<Done, Failure> 
         Command::Unwind(arguments) => walks::unwind(&arguments, out),
         Command::Backtrace(arguments) => walks::backtrace(&arguments, out),
         Command::Locs(arguments) => lists::locs(&arguments, out),
-        Command::Stack(arguments) => stack::stack(&arguments, out),
+        Command::Stack(arguments) => match arguments.handler.handler {
+            Some(id) => handler::handle(&arguments, id, out),
+            None => stack::stack(&arguments, out),
+        },
         Command::Vars(arguments) => vars::vars(&arguments, out),
         Command::Survey(arguments) => survey::survey(&arguments, out),
         Command::Lint(arguments) if arguments.confirm => trace::confirm(&arguments, out),

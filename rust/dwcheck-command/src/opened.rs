@@ -12,6 +12,7 @@ use dwcheck_elf::program::Program;
 use dwcheck_elf::state_file::parse_address;
 use dwcheck_elf::target::Target;
 use dwcheck_elf::text::Escaped;
+use dwcheck_elf::unpacked::read_unpacked;
 use std::fmt;
 use std::fs::File;
 use std::io::{self, Read, Write};
@@ -20,6 +21,11 @@ use std::path::Path;
 /// Opens an ELF file, which may also be a pipe or another file that isn't regular.
 pub fn open_elf(path: &Path) -> Result<Bytes, Failure> {
     Bytes::of_elf(path).map_err(|error| Failure::reading(path, &error))
+}
+
+/// Opens a core file or a minidump, which may be compressed.
+pub fn open_core(path: &Path) -> Result<Bytes, Failure> {
+    read_unpacked(path).map_err(|error| Failure::reading(path, &error))
 }
 
 /// Reads a text to its end, even if it is a pipe or another file that isn't regular.

@@ -3,8 +3,9 @@
 mod threads;
 
 use crate::arguments::StackArguments;
+use crate::crash::Crash;
 use crate::end::{shown_path, Done, Failure};
-use crate::opened::open_elf;
+use crate::opened::{open_core, open_elf};
 use dwcheck_elf::core_file::{CoreError, CoreFile, Files, MappedFile, Search};
 use dwcheck_elf::live::Snapshot;
 use dwcheck_elf::mapped::Bytes;
@@ -22,10 +23,10 @@ pub fn stack(arguments: &StackArguments, out: &mut impl Write) -> Result<Done, F
     if let Some(pid) = arguments.pid {
         return stack_of_process(arguments, pid, out);
     }
-    match arguments.files.as_slice() {
-        [core] => stack_of_core(arguments, None, core, out),
-        [program, core] => stack_of_core(arguments, Some(program), core, out),
-        _ => Err(Failure::Argument("give [PROGRAM] CORE, or --pid".to_string())),
+    match (arguments.files.as_slice(), &arguments.core) {
+        ([core], None) | ([], Some(core)) => stack_of_core(arguments, None, core, out),
+        ([program, core], None) | ([program], Some(core)) => stack_of_core(arguments, Some(program), core, out),
+        _ => Err(Failure::Argument("give [PROGRAM] CORE, [PROGRAM] -c CORE or --pid".to_string())),
     }
 }
 
@@ -41,7 +42,7 @@ fn stack_of_core(
     path: &Path,
     out: &mut impl Write,
 ) -> Result<Done, Failure> {
-    let bytes = open_elf(path)?;
+    let bytes = open_core(path)?;
     let core = CoreFile::read(&bytes).map_err(|error| unread_core(path, &error))?;
     let mut files = Files::read_with(&core, &search_in(&arguments.root, &arguments.path)?);
     let opened = match program {
@@ -88,15 +89,32 @@ fn stack_of_process(arguments: &StackArguments, pid: u32, out: &mut impl Write) 
     print_stacks(arguments, &core, (&mut stacks, Some(copy.longest_stop())), warnings, out)
 }
 
-/// Walks the stacks, prints them, and then the warnings. For a process that runs, `longest_stop` is
-/// the longest time for which a thread was stopped.
+/// Walks the stacks, prints them, and then the warnings.
 fn print_stacks(
     arguments: &StackArguments,
     core: &CoreFile<'_>,
-    (stacks, longest_stop): (&mut Stacks<'_>, Option<Duration>),
+    stacks: (&mut Stacks<'_>, Option<Duration>),
     mut warnings: Vec<String>,
     out: &mut impl Write,
 ) -> Result<Done, Failure> {
+    write_stacks(arguments, core, stacks, None, &mut warnings, out)?;
+    for warning in warnings {
+        let _ = writeln!(io::stderr(), "dwcheck-elf: {}", warning);
+    }
+    Ok(Done::Accepted)
+}
+
+/// Walks the stacks and writes them. For a process that runs, `longest_stop` is the longest time for which a thread was
+/// stopped; for one that the kernel holds, `crash` is what is known of it. Adds what isn't used to `warnings`, which only
+/// a document of JSON has.
+pub fn write_stacks(
+    arguments: &StackArguments,
+    core: &CoreFile<'_>,
+    (stacks, longest_stop): (&mut Stacks<'_>, Option<Duration>),
+    crash: Option<&Crash>,
+    warnings: &mut Vec<String>,
+    out: &mut dyn Write,
+) -> Result<(), Failure> {
     let (inlined, source, raw) = (!arguments.no_inline, !arguments.no_source, arguments.raw_names);
     stacks.show_names(NameOptions { inlined, source, raw });
     if arguments.vars {
@@ -106,13 +124,9 @@ fn print_stacks(
         stacks.show_modules();
     }
     let overflowed = stacks.overflowed();
-    let report = Report { arguments, core, stacks, longest_stop, overflowed };
-    report.write(out, &mut warnings)?;
-    out.flush()?;
-    for warning in warnings {
-        let _ = writeln!(io::stderr(), "dwcheck-elf: {}", warning);
-    }
-    Ok(Done::Accepted)
+    let report = Report { arguments, core, stacks, longest_stop, crash, overflowed };
+    report.write(out, warnings)?;
+    Ok(out.flush()?)
 }
 
 fn open_program(program: &Path) -> Result<OpenedProgram, Failure> {

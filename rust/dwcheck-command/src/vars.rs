@@ -3,7 +3,7 @@
 
 use crate::arguments::VarsArguments;
 use crate::end::{shown_path, Done, Failure};
-use crate::opened::{address_argument, number_argument, open_elf, parse_program, write_note, Opened};
+use crate::opened::{address_argument, number_argument, open_core, open_elf, parse_program, write_note, Opened};
 use crate::stack::search_in;
 use crate::walks::read_state_file;
 use dwcheck::{Block, Process, State};
@@ -50,7 +50,7 @@ pub fn vars(arguments: &VarsArguments, out: &mut impl Write) -> Result<Done, Fai
 }
 
 fn variables_of_core(arguments: &VarsArguments, path: &Path, shape: Shape) -> Result<Vec<Function>, Failure> {
-    let bytes = open_elf(path)?;
+    let bytes = open_core(path)?;
     let core = CoreFile::read(&bytes).map_err(|error| Failure::File(format!("{}: {}", shown_path(path), error)))?;
     core.problems().iter().for_each(|problem| write_note(path, problem));
     let files = Files::read_with(&core, &search_in(&arguments.root, &arguments.path)?);

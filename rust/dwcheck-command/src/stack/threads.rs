@@ -1,6 +1,7 @@
 //! Writes the stacks of all threads, as text or as JSON.
 
 use crate::arguments::StackArguments;
+use crate::crash::Crash;
 use crate::end::Failure;
 use dwcheck_elf::core_file::{Annotation, CoreFile, Signal, Thread};
 use dwcheck_elf::stack::{Instruction, Listed, Stack, Stacks, Stop, WalkOptions};
@@ -17,6 +18,8 @@ pub struct Report<'r, 'a> {
     pub stacks: &'r Stacks<'a>,
     /// For a process that runs: the longest time for which a thread was stopped.
     pub longest_stop: Option<Duration>,
+    /// For a process that the kernel holds: what is known of it.
+    pub crash: Option<&'r Crash>,
     /// The thread whose stack overflowed.
     pub overflowed: Option<u32>,
 }
@@ -32,7 +35,7 @@ struct Group<'r, 'a> {
 
 impl<'r, 'a> Report<'r, 'a> {
     /// Writes everything. Appends what isn't used to `warnings`, which a document of JSON has too.
-    pub fn write(&self, out: &mut impl Write, warnings: &mut Vec<String>) -> Result<(), Failure> {
+    pub fn write(&self, out: &mut dyn Write, warnings: &mut Vec<String>) -> Result<(), Failure> {
         self.write_head(out)?;
         if self.arguments.group {
             for (number, group) in self.groups()?.iter().enumerate() {
@@ -97,10 +100,11 @@ impl<'r, 'a> Report<'r, 'a> {
         Ok(groups)
     }
 
-    fn write_head(&self, out: &mut impl Write) -> io::Result<()> {
+    fn write_head(&self, out: &mut dyn Write) -> io::Result<()> {
         if self.arguments.json {
             return self.write_json_head(out);
         }
+        self.crash.map_or(Ok(()), |crash| write!(out, "{}", crash))?;
         let signal = match self.core.signal() {
             Some(signal) => signal,
             None => return Ok(()),
@@ -132,10 +136,11 @@ impl<'r, 'a> Report<'r, 'a> {
         self.stacks.instruction().map_or(Ok(()), |instruction| self.write_instruction(out, &instruction))
     }
 
-    fn write_json_head(&self, out: &mut impl Write) -> io::Result<()> {
+    fn write_json_head(&self, out: &mut dyn Write) -> io::Result<()> {
         let process = self.core.process();
         let signal = self.core.signal().map(|signal| self.json_signal(signal));
-        write!(out, "{{\"pid\":{},", Value::from(process.map(|process| process.id)))?;
+        write!(out, "{{\"crash\":{},", Value::from(self.crash.map(Crash::json)))?;
+        write!(out, "\"pid\":{},", Value::from(process.map(|process| process.id)))?;
         write!(out, "\"name\":{},", Value::from(process.map(|process| process.name.clone())))?;
         let command = process.and_then(|process| process.command.clone());
         write!(out, "\"command\":{},", Value::from(command))?;
@@ -155,7 +160,7 @@ impl<'r, 'a> Report<'r, 'a> {
         Some(annotations.collect::<Vec<_>>()).filter(|_| self.core.is_minidump()).into()
     }
 
-    fn write_instruction(&self, out: &mut impl Write, instruction: &Instruction) -> io::Result<()> {
+    fn write_instruction(&self, out: &mut dyn Write, instruction: &Instruction) -> io::Result<()> {
         write!(out, "instruction {}:", Address(self.core.target(), instruction.address))?;
         if instruction.bytes.is_empty() {
             return writeln!(out, " unreadable");
@@ -182,7 +187,7 @@ impl<'r, 'a> Report<'r, 'a> {
         thread.name.as_deref().or_else(|| process.map(|process| process.name.as_str()))
     }
 
-    fn write_group(&self, out: &mut impl Write, number: usize, group: &Group<'r, 'a>) -> io::Result<()> {
+    fn write_group(&self, out: &mut dyn Write, number: usize, group: &Group<'r, 'a>) -> io::Result<()> {
         if self.arguments.json {
             let comma = if number > 0 { "," } else { "" };
             writeln!(out, "{}", comma)?;
@@ -196,7 +201,7 @@ impl<'r, 'a> Report<'r, 'a> {
         write!(out, ":\n{}", group.stack.lines())
     }
 
-    fn write_json_group(&self, out: &mut impl Write, group: &Group<'r, 'a>) -> io::Result<()> {
+    fn write_json_group(&self, out: &mut dyn Write, group: &Group<'r, 'a>) -> io::Result<()> {
         let threads = group.threads.iter();
         let threads: Value = threads
             .map(|thread| json!({ "id": thread.id, "name": self.name(thread), "signal": thread.signal }))

@@ -105,6 +105,34 @@ fn a_program_that_is_gone_and_not_in_the_core_file() {
     assert_eq!(stop(&ran.out), "stop: not covered");
 }
 
+/// systemd keeps core files compressed, and coredumpctl calls a debugger with `PROGRAM -c CORE`. One that is cut off, as by
+/// a full disk, has an answer too.
+#[test]
+fn compressed_core_files() {
+    let folder = Folder::new("files-compressed");
+    if !["gdb", "zstd", "lz4", "xz", "gzip"].iter().all(|tool| has(tool)) {
+        return;
+    }
+    folder.write("a.c", SORTS);
+    folder.run("gcc -O1 a.c -o program");
+    crash(&folder, false);
+    let plain = dwcheck_elf(&folder, "stack core");
+    assert!(plain.out.contains(" sorts+") && plain.error.is_empty(), "{}{}", plain.error, plain.out);
+    for tool in ["zstd", "lz4", "xz", "gzip"] {
+        folder.run(&format!("{} -c core > core.packed", tool));
+        for words in ["stack core.packed", "stack ./program -c core.packed", "stack -c core.packed"] {
+            let ran = dwcheck_elf(&folder, words);
+            assert_eq!((ran.status, &ran.out, ran.error.as_str()), (0, &plain.out, ""), "{} {}", tool, words);
+        }
+        let vars = dwcheck_elf(&folder, "vars --core core.packed");
+        assert_eq!(vars.out, dwcheck_elf(&folder, "vars --core core").out);
+        folder.run("head -c 20000 core.packed > cut");
+        let cut = dwcheck_elf(&folder, "stack cut");
+        assert!(cut.status == 3 || cut.error.contains("ends before the memory"), "{}{}", cut.error, cut.out);
+    }
+    assert_eq!(dwcheck_elf(&folder, "stack ./program core.packed -c core.packed").status, 2);
+}
+
 /// What a program and another one share: the type `int`, and the name `shared`.
 const COMMON: &str = r#"
 .section .debug_abbrev,"",@progbits

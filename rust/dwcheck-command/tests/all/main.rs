@@ -18,6 +18,7 @@ mod defects;
 mod demangled_names;
 mod eh_frame;
 mod frame_names;
+mod handler;
 mod lint;
 mod lists;
 mod live;

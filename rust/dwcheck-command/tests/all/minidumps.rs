@@ -253,6 +253,70 @@ fn the_same_crash_of_i386_and_aarch64() {
     }
 }
 
+/// A file without a build id has one of its code, which Breakpad gives it.
+#[test]
+fn a_program_without_a_build_id_is_found_by_its_code() {
+    let folder = Folder::new("minidumps-code-id");
+    if !has("gdb") {
+        return;
+    }
+    folder.write("a.c", PROGRAM);
+    folder.run("gcc -O1 -pthread -Wl,--build-id=none a.c -o program");
+    folder.make_core("./program");
+    compare(&folder, None);
+    let found = || {
+        let ran = dwcheck_elf(&folder, "stack --no-source --path symbols dump");
+        (functions(&ran.out).contains(&"faulty".to_string()), ran.error)
+    };
+    folder.run("mkdir symbols && mv program symbols/");
+    assert_eq!(found(), (true, String::new()));
+    folder.run("sed 's/raise(SIGUSR1) + //' a.c > b.c && gcc -O1 -pthread -Wl,--build-id=none b.c -o symbols/program");
+    let (is_found, error) = found();
+    assert!(!is_found && error.contains("symbols/program is another build"), "{}", error);
+}
+
+/// Calls a function through two frames of code that it has made, which keeps frame pointers: `push %rbp; mov %rsp, %rbp;
+/// mov %rdi, %rax; mov %rsi, %rdi; mov %rdx, %rsi; call *%rax; leave; ret`.
+const MADE_CODE: &str = r#"
+#include <stdlib.h>
+#include <string.h>
+#include <sys/mman.h>
+typedef int made(void *, void *, long);
+static const char bytes[] = "\x55\x48\x89\xe5\x48\x89\xf8\x48\x89\xf7\x48\x89\xd6\xff\xd0\xc9\xc3";
+__attribute__((noinline)) static int crashes(long n) { return *(volatile int *)n + 1; }
+__attribute__((noinline)) static int calls(made *code) { return code((void *)code, (void *)crashes, 8) + 1; }
+int main(void) {
+    void *page = mmap(0, 4096, PROT_READ | PROT_WRITE | PROT_EXEC, MAP_PRIVATE | MAP_ANONYMOUS, -1, 0);
+    return calls((made *)memcpy(page, bytes, sizeof bytes)) + 1;
+}
+"#;
+
+/// Crashpad's minidumps don't say which memory is code. Frames of code that a program has made are passed by their frame
+/// pointers, and the callers are marked, as in a core file. Without frame pointers, the end says that it isn't known.
+#[test]
+fn code_that_a_program_has_made() {
+    let folder = Folder::new("minidumps-made-code");
+    if !has("gdb") {
+        return;
+    }
+    folder.write("a.c", MADE_CODE);
+    folder.run("gcc -O1 a.c -o program");
+    folder.make_core("./program");
+    compare(&folder, None);
+    let bytes = folder.bytes("core");
+    folder.write("dump", minidump(&CoreFile::read(&bytes).unwrap(), None, Writer::Crashpad));
+    let ran = dwcheck_elf(&folder, "stack --no-source dump");
+    assert_eq!(ran.out.matches(" guess: frame pointer").count(), 2, "{}", ran.out);
+    assert!(functions(&ran.out).ends_with(&["calls", "main", "", "", "_start"].map(String::from)), "{}", ran.out);
+    folder.write("a.c", MADE_CODE.replace("\\x55\\x48\\x89\\xe5", "\\x51\\x31\\xed\\x90").replace("\\xc9", "\\x59"));
+    folder.run("gcc -O1 a.c -o program");
+    folder.make_core("./program");
+    let bytes = folder.bytes("core");
+    folder.write("dump", minidump(&CoreFile::read(&bytes).unwrap(), None, Writer::Crashpad));
+    let ran = dwcheck_elf(&folder, "stack --no-source dump");
+    assert!(stop(&ran.out).ends_with(" is in no module, and may be code"), "{}", ran.out);
+}
+
 /// Without the program's file, no row and no frame pointer leads on. The words of the stack that may be return addresses
 /// have those of all callers.
 #[test]

@@ -33,16 +33,27 @@ fn files_without_an_end_and_without_bytes() {
     assert!(status == 3 && error.contains("it isn't a regular file, and has more than "), "{}", error);
 }
 
-/// A core file that is packed isn't read, but the message says how to unpack it.
+/// What a packed file is that isn't read as a core file, and how to unpack it.
 #[test]
 fn packed_core_files() {
     let folder = Folder::new("packed");
-    folder.run("echo core > core; gzip -k core; printf MDMPxx > mini");
-    let (status, error) = bounded(&folder, "stack core.gz");
-    assert_eq!(
-        (status, error.as_str()),
-        (3, "dwcheck-elf: core.gz: not a core file, but compressed by gzip: unpack it by gunzip\n")
+    folder.run("echo core > core; gzip -k core; printf BZh91AY > core.bz2; printf MDMPxx > mini");
+    folder.run(
+        "printf 'ProblemType: Crash\\nCoreDump: base64\\n H4sI' > x.crash; printf '\\050\\265\\057\\375bad' > bad.zst",
     );
+    for (file, why) in [
+        ("core.gz", "not a core file that can be read: it doesn't begin as an ELF file"),
+        ("core.bz2", "not a core file, but compressed by bzip2: unpack it by bunzip2"),
+        (
+            "x.crash",
+            "not a core file, but a report of apport: take its core file out by apport-unpack REPORT FOLDER, and give FOLDER/CoreDump",
+        ),
+    ] {
+        let (status, error) = bounded(&folder, &format!("stack {}", file));
+        assert_eq!((status, error), (3, format!("dwcheck-elf: {}: {}\n", file, why)));
+    }
+    let (status, error) = bounded(&folder, "stack bad.zst");
+    assert!(status == 3 && error.starts_with("dwcheck-elf: cannot read bad.zst: it can't be unpacked: "), "{}", error);
     let (status, error) = bounded(&folder, "check mini");
     assert_eq!(
         (status, error.as_str()),

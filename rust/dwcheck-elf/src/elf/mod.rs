@@ -18,3 +18,4 @@ pub mod other_file;
 pub mod plt;
 pub mod program;
 pub mod relocate;
+pub mod unpacked;

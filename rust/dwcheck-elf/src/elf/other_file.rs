@@ -12,7 +12,7 @@ pub struct OtherFile {
 }
 
 /// The kinds, each by the first bytes of its files.
-const KINDS: [(&[u8], OtherFile); 18] = [
+const KINDS: [(&[u8], OtherFile); 19] = [
     (b"\x28\xb5\x2f\xfd", OtherFile { kind: "compressed by zstd", help: "unpack it by unzstd" }),
     (b"\x1f\x8b", OtherFile { kind: "compressed by gzip", help: "unpack it by gunzip" }),
     (b"\xfd7zXZ", OtherFile { kind: "compressed by xz", help: "unpack it by unxz" }),
@@ -29,6 +29,13 @@ const KINDS: [(&[u8], OtherFile); 18] = [
     (b"/* GNU ld script", OtherFile { kind: "a script of the linker", help: "name the library that it names" }),
     (b"PERFILE2", OtherFile { kind: "a recording of perf", help: "dwcheck-elf profile reads it" }),
     (b"MDMP", OtherFile { kind: "a minidump", help: "dwcheck-elf stack shows its stacks" }),
+    (
+        b"ProblemType: ",
+        OtherFile {
+            kind: "a report of apport",
+            help: "take its core file out by apport-unpack REPORT FOLDER, and give FOLDER/CoreDump",
+        },
+    ),
     (b"KDUMP   ", OtherFile { kind: "a dump of a kernel", help: "its tools are crash and drgn" }),
     (b"makedumpfile", OtherFile { kind: "a dump of a kernel", help: "its tools are crash and drgn" }),
 ];

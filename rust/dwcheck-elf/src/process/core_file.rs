@@ -3,6 +3,7 @@
 
 mod dump;
 mod files;
+pub(crate) mod head;
 mod in_memory;
 mod memory;
 mod modules;
@@ -30,12 +31,13 @@ use dump::Dump;
 use dwcheck_minidump::{Minidump, MinidumpError};
 use dwcheck_types::abi::{abi, Abi};
 use dwcheck_types::target::{AddressSize, Order, Target};
-use notes::Notes;
-use object::elf::{self, FileHeader32, FileHeader64, ELFMAG, ET_CORE, PT_LOAD};
+use notes::{notes_in, Notes};
+use object::elf::{self, FileHeader32, FileHeader64, ELFMAG, ET_CORE, PT_LOAD, PT_NOTE};
 use object::read::elf::{FileHeader, ProgramHeader};
 use object::read::FileKind;
 use object::Endianness;
 use segments::{Code, CoreSegment};
+use std::collections::HashMap;
 use std::fmt;
 use std::ops::Range;
 
@@ -58,6 +60,8 @@ pub struct CoreFile<'data> {
     size: usize,
     /// What only minidumps have. `None` for anything else.
     dump: Option<Dump<'data>>,
+    /// The process, if the kernel still holds it.
+    held: Option<&'data Process>,
 }
 
 /// What was copied of a process that runs.
@@ -132,13 +136,11 @@ impl<'data> CoreFile<'data> {
         let mut notes = Notes::new(target, abi);
         let mut segments = Vec::new();
         for segment in header.program_headers(endian, data).map_err(elf_error)? {
-            if segment.p_type(endian) == PT_LOAD {
-                segments.push(CoreSegment::of(segment, endian, data));
-            }
-            if let Some(mut read) = segment.notes(endian, data).map_err(elf_error)? {
-                while let Some(note) = read.next().map_err(elf_error)? {
-                    notes.add(note.name(), note.n_type(endian), note.desc())?;
-                }
+            let part = CoreSegment::of(segment, endian, data);
+            match segment.p_type(endian) {
+                PT_LOAD => segments.push(part),
+                PT_NOTE => notes_in(part.bytes, target).try_for_each(|note| notes.add(&note))?,
+                _ => {}
             }
         }
         let Notes { threads, signal, mappings, vdso, entry, name, process, pac_mask, .. } = notes;
@@ -159,6 +161,7 @@ impl<'data> CoreFile<'data> {
             code,
             size: data.len(),
             dump,
+            held: None,
         };
         Ok(core)
     }
@@ -191,7 +194,34 @@ impl<'data> CoreFile<'data> {
             segments,
             size: usize::MAX,
             dump: None,
+            held: None,
         }
+    }
+
+    /// Whether it seems to be the core file of a process: the same program, the name with which it was started and the vDSO
+    /// are at the same addresses.
+    pub(crate) fn is_of(&self, process: &Process) -> bool {
+        let auxiliary = |kind| notes::auxiliary_value(&process.auxiliary, self.target, kind);
+        let known = [notes::AT_SYSINFO_EHDR, notes::AT_ENTRY, notes::AT_EXECFN].map(auxiliary);
+        [self.vdso, self.entry, self.name] == known
+    }
+
+    /// The same for a process that the kernel holds while it writes the core file: with memory that was copied. Where two
+    /// blocks have an address, the first one counts. `names` are those of threads. What wasn't copied is read of the process, as far as walks don't
+    /// need it.
+    pub(crate) fn of_held(
+        mut self,
+        process: &'data Process,
+        memory: [&'data [(u64, Vec<u8>)]; 2],
+        names: &HashMap<u32, String>,
+    ) -> Self {
+        self.threads.iter_mut().for_each(|thread| thread.name = names.get(&thread.id).cloned());
+        let copied = memory.iter().copied().flatten().map(|(address, bytes)| CoreSegment::of_copy(*address, bytes));
+        let listed = self.segments.iter().map(CoreSegment::without_bytes);
+        let segments: Vec<_> = copied.chain(listed).collect();
+        let mappings: Vec<_> = self.mappings.iter().map(|mapping| mapping.in_maps(&process.maps)).collect();
+        let code = Code::of(&segments, &mappings);
+        CoreFile { segments, mappings, code, size: usize::MAX, held: Some(process), ..self }
     }
 
     /// The byte order and the address size.

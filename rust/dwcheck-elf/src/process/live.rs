@@ -8,20 +8,18 @@ mod data;
 mod trace;
 
 pub use super::maps::{LiveError, Map};
+pub use crate::process::used_stacks::STACK_LIMIT;
+pub(crate) use data::copy_changeable_memory;
 pub use data::DATA_LIMIT;
 
 use crate::process::core_file::{Copied, CoreFile, Thread};
 use crate::process::maps::Process;
+use crate::process::used_stacks::Stacked;
 use dwcheck_types::abi::Abi;
 use dwcheck_types::target::Target;
+use std::ops::Range;
 use std::time::Duration;
 use trace::{Stopped, TraceError};
-
-/// At most this many bytes of a thread's stack are copied.
-pub const STACK_LIMIT: u64 = 16 << 20;
-
-/// How many bytes below the stack pointer are copied too: the red zone of x86-64.
-const RED_ZONE: u64 = 128;
 
 /// A copy of what a walk needs of a process.
 #[derive(Debug)]
@@ -139,47 +137,25 @@ impl Snapshot {
             Err(error) => return self.skipped.push((tid, error)),
         };
         let (registers, vectors) = (stopped.registers(self.target, self.abi), stopped.vectors(self.target, self.abi));
-        let stack = registers.as_ref().and_then(|registers| self.stack(registers));
-        let own = registers.as_ref().and_then(|registers| self.own_stack(tid, registers, stack.as_ref()));
+        let stacks = registers.as_ref().map_or_else(Vec::new, |registers| self.stacks(tid, registers));
         self.pac_mask = self.pac_mask.or_else(|| stopped.pac_mask());
         if let Some(data) = self.data.as_mut().filter(|data| data.is_empty()) {
             *data = data::copy_changeable_memory(&self.process);
         }
         self.longest = self.longest.max(stopped.resume());
         if let Some(registers) = registers {
-            self.blocks.extend(stack.into_iter().chain(own));
+            self.blocks.extend(stacks);
             let name = self.process.thread_name(tid);
             self.threads.push(Thread { id: tid, name, signal: 0, registers, vectors });
         }
     }
 
-    /// The stack with which a thread began, if the thread now runs on another one, such as that of a signal
-    /// handler: that of the process's first thread, or what has the thread's own data.
-    fn own_stack(&self, tid: u32, registers: &[(u16, u64)], used: Option<&(u64, Vec<u8>)>) -> Option<(u64, Vec<u8>)> {
-        let has = |map: &&Map, address: u64| (map.begin..map.end).contains(&address);
-        let map = if tid == self.process.id {
-            self.process.maps.iter().find(|map| map.path == b"[stack]")?
-        } else {
-            let wanted = self.abi.thread_pointer?;
-            let (_, pointer) = registers.iter().find(|(number, _)| *number == wanted)?;
-            self.process.maps.iter().find(|map| has(map, *pointer))?
-        };
-        if used.map_or(true, |(begin, _)| has(&map, *begin)) {
-            return None;
-        }
-        let size = (map.end - map.begin).min(STACK_LIMIT);
-        Some((map.end - size, self.process.memory(map.end - size, size)?))
-    }
-
-    /// The used part of the stack of a thread with these registers.
-    fn stack(&self, registers: &[(u16, u64)]) -> Option<(u64, Vec<u8>)> {
-        let (_, pointer) = registers.iter().find(|(number, _)| *number == self.abi.stack_pointer)?;
-        let map = self.process.maps.iter().find(|map| (map.begin..map.end).contains(pointer));
-        // The stack may have grown downwards since the list of the memory was read.
-        let above = self.process.maps.iter().filter(|map| map.begin > *pointer).min_by_key(|map| map.begin);
-        let map = map.or(above)?;
-        let begin = pointer.saturating_sub(RED_ZONE).max(map.begin.min(*pointer));
-        Some((begin, self.process.memory(begin, (map.end - begin).min(STACK_LIMIT))?))
+    /// The used parts of the stacks of a thread with these registers.
+    fn stacks(&self, tid: u32, registers: &[(u16, u64)]) -> Vec<(u64, Vec<u8>)> {
+        let is_first = tid == self.process.id;
+        let thread = Stacked { maps: &self.process.maps, abi: self.abi, registers, is_first };
+        let copy = |part: Range<u64>| Some((part.start, self.process.memory(part.start, part.end - part.start)?));
+        thread.parts().filter_map(copy).collect()
     }
 }
 

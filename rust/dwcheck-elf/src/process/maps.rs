@@ -5,6 +5,7 @@ use dwcheck_types::abi::{abi, Abi};
 use dwcheck_types::target::Target;
 use nix::sys::uio::{process_vm_readv, RemoteIoVec};
 use nix::unistd::Pid;
+use std::collections::HashMap;
 use std::fmt;
 use std::fs;
 use std::io::{self, IoSliceMut};
@@ -94,6 +95,20 @@ impl Process {
     pub fn thread_name(&self, tid: u32) -> Option<String> {
         let name = fs::read(format!("/proc/{}/task/{}/comm", self.id, tid)).ok()?;
         Some(String::from_utf8_lossy(&name).trim_end_matches('\n').to_string())
+    }
+
+    /// The name of each thread, by the id that it has where the process is: in a container, ids may be others.
+    pub fn names_inside(&self) -> HashMap<u32, String> {
+        let threads = self.threads().unwrap_or_default();
+        threads.into_iter().filter_map(|tid| Some((self.id_inside(tid), self.thread_name(tid)?))).collect()
+    }
+
+    /// The id that a thread has in its innermost namespace.
+    fn id_inside(&self, tid: u32) -> u32 {
+        let status = fs::read(format!("/proc/{}/task/{}/status", self.id, tid)).unwrap_or_default();
+        let status = String::from_utf8_lossy(&status);
+        let ids = status.lines().find_map(|line| line.strip_prefix("NSpid:"));
+        ids.and_then(|ids| ids.split_ascii_whitespace().last()?.parse().ok()).unwrap_or(tid)
     }
 
     /// Whether a thread has ended, though it may still be listed.

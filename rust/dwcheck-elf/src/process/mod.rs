@@ -3,9 +3,11 @@
 //! It uses `elf`, `cfi` and `debug`.
 
 pub mod core_file;
+pub mod dying;
 pub mod live;
 pub mod maps;
 pub mod modules;
 pub mod stack;
 pub mod state_file;
+mod used_stacks;
 pub mod without_row;

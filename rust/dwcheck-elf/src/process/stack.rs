@@ -151,6 +151,8 @@ pub enum Stop {
     ReturnDivisionByZero,
     /// The return address is this one, where no code is.
     NotExecutable(u64),
+    /// The return address is this one, in no module, and the minidump doesn't say whether code is there.
+    NotKnown(u64),
     /// The CFA of the last frame isn't above that of the frame that it called.
     CfaNotGrowing,
     /// The caller of the last frame is one of the frames before, with the same CFA.

@@ -15,6 +15,7 @@ mod call;
 mod growth;
 mod signal_return;
 mod stub;
+mod unknown_code;
 
 pub use call::ends_with_call;
 pub use growth::{Growth, NotGrowing};
@@ -94,6 +95,11 @@ pub trait View {
     /// Whether the process could execute code at an address.
     fn is_executable(&self, address: u64) -> bool;
 
+    /// Whether an address is in memory of which nothing says whether it is code.
+    fn may_be_code(&self, _address: u64) -> bool {
+        false
+    }
+
     /// Whether a caller may continue at an address: code is there, or before it, where the call is then the last code that
     /// is mapped.
     fn is_in_code(&self, address: u64) -> bool {
@@ -149,13 +155,14 @@ impl<V: View> Guesser<'_, V> {
     ///
     /// Those of [`View::has_row`].
     pub fn caller(&self, address: u64, is_after_call: bool) -> Result<Option<Guess>, Error> {
-        if is_after_call {
-            return Ok(self.by_frame_pointer().filter(|_| self.view.is_in_code(address)));
+        if is_after_call && self.view.is_in_code(address) {
+            return Ok(self.by_frame_pointer());
         }
-        match self.view.is_executable(address) {
-            true => self.of_innermost(address),
-            false => Ok(self.by_call()),
+        if !is_after_call && self.view.is_executable(address) {
+            return self.of_innermost(address);
         }
+        let by_call = if is_after_call { None } else { self.by_call() };
+        Ok(by_call.or_else(|| if self.view.may_be_code(address) { self.by_chain() } else { None }))
     }
 
     /// The caller of code that no row covers and that called nothing. The frame to which the frame pointer leads is its
@@ -292,6 +299,12 @@ impl<V: View> Guesser<'_, V> {
     /// The caller of a frame whose code keeps a frame pointer. It points to the caller's frame
     /// pointer and the return address.
     pub fn by_frame_pointer(&self) -> Option<Guess> {
+        // Interpreters, such as HotSpot's, push return addresses that follow no call.
+        self.framed().filter(|guess| guess.address != 0 && self.view.is_in_code(guess.address))
+    }
+
+    /// The same, whatever is at the caller's address.
+    fn framed(&self) -> Option<Guess> {
         let abi = self.view.abi();
         let size = self.word_size();
         let pointer = self.registers.get(abi.frame_pointer)?;
@@ -301,9 +314,7 @@ impl<V: View> Guesser<'_, V> {
         let address = self.unsigned(held);
         let cfa = pointer.checked_add(2 * size)?;
         let known = [(abi.frame_pointer, saved), (abi.stack_pointer, cfa), (abi.program_counter, address)];
-        let guess = Guess { found_by: FoundBy::FramePointer, address, registers: known.into(), cfa };
-        // Interpreters, such as HotSpot's, push return addresses that follow no call.
-        Some(guess).filter(|_| address != 0 && self.view.is_in_code(address))
+        Some(Guess { found_by: FoundBy::FramePointer, address, registers: known.into(), cfa })
     }
 
     /// The caller of a frame, if nothing else finds it: the first word of the stack, of [`SCANNED`], that is an address

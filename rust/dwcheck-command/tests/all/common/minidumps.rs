@@ -3,6 +3,7 @@
 
 use dwcheck_elf::core_file::{CoreFile, Files, Module, Thread};
 use dwcheck_elf::program::Program;
+use object::{Object, ObjectSection};
 use std::path::Path;
 
 /// The numbers of the streams that are written.
@@ -135,11 +136,24 @@ fn module_entry(dump: &mut Minidump, module: &Module<'_>, writer: Writer) -> Vec
     let is_library = own.contains(".so");
     let name = dump.text(if writer == Writer::Crashpad && is_library { &own } else { &path });
     let program = Program::read(module.image.bytes()).unwrap();
-    let record = [b"LEpB", program.build_id().unwrap_or(&[])].concat();
+    let bytes = module.image.bytes();
+    let id = program.build_id().map_or_else(|| build_id_of_code(bytes).to_vec(), <[u8]>::to_vec);
+    let record = [b"LEpB", &id[..]].concat();
     let size = if writer == Writer::Lldb { 0x5e0 } else { (module.end - module.begin) as u32 };
     let record = [record.len() as u32, dump.add(&record)];
     let numbers = [&words(&[size, 0, 0, name]), &[0; 52][..], &words(&record), &[0; 24][..]].concat();
     [&module.begin.to_le_bytes()[..], &numbers].concat()
+}
+
+/// Breakpad's id of a file without a build id: of the first 4,096 bytes of `.text`, each 16 bytes from its beginning on, by
+/// exclusive or (`HashElfTextSection` of `file_id.cc`).
+fn build_id_of_code(bytes: &[u8]) -> [u8; 16] {
+    let (begin, size) = object::File::parse(bytes).unwrap().section_by_name(".text").unwrap().file_range().unwrap();
+    let mut id = [0; 16];
+    for place in (0..size.min(4096) as usize).step_by(16).flat_map(|part| part..part + 16) {
+        id[place % 16] ^= bytes[begin as usize + place];
+    }
+    id
 }
 
 fn exception(core: &CoreFile<'_>, writer: Writer, context: (u32, u32)) -> Vec<u8> {

@@ -75,6 +75,7 @@ impl<'data> CoreFile<'data> {
                 modules,
             }),
             size,
+            held: None,
         }
     }
 

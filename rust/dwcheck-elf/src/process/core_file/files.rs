@@ -149,12 +149,16 @@ impl Files {
     /// open these; otherwise the files at their paths.
     pub fn of_live(core: &CoreFile<'_>, pid: u32) -> Self {
         let pid = crate::process::maps::thread_with_memory(pid);
-        let root = PathBuf::from(format!("/proc/{}/root", pid));
+        let folder = PathBuf::from(format!("/proc/{}", pid));
+        let (root, program) = (folder.join("root"), folder.join("exe"));
+        let own = program.read_link().unwrap_or_default();
         Files::open(core, &root, |mapping| {
-            let mapped = format!("/proc/{}/map_files/{:x}-{:x}", pid, mapping.begin, mapping.end);
+            let mapped = folder.join(format!("map_files/{:x}-{:x}", mapping.begin, mapping.end));
             let path = Path::new(OsStr::from_bytes(mapping.path));
-            open_regular_file(Path::new(&mapped))
-                .or_else(|_| path_below_root(&root, path).and_then(|path| open_regular_file(&path)))
+            let at_path = || path_below_root(&root, path).and_then(|path| open_regular_file(&path));
+            open_regular_file(&mapped)
+                .or_else(|error| if path == own { open_regular_file(&program) } else { Err(error) })
+                .or_else(|_| at_path())
         })
     }
 

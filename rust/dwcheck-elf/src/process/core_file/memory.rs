@@ -3,6 +3,7 @@
 use super::modules::Listed;
 use super::{CoreFile, Files};
 use crate::elf::covered::Covered;
+use crate::process::maps::Process;
 use std::collections::BTreeMap;
 
 /// Where the bytes of a block come from.
@@ -32,6 +33,8 @@ pub struct Memory<'a> {
     blocks: BTreeMap<u64, Block<'a>>,
     /// The addresses of all of them, so that blocks which overlap many others are added quickly.
     held: Covered,
+    /// The process that has the memory of which no block is known, if it is still there.
+    process: Option<&'a Process>,
 }
 
 impl<'a> Block<'a> {
@@ -56,7 +59,7 @@ impl<'data> CoreFile<'data> {
     where
         'data: 'a,
     {
-        let mut memory = self.memory_in_core();
+        let mut memory = Memory { process: self.held, ..self.memory_in_core() };
         for mapping in self.mappings().iter().filter(|mapping| !mapping.has_changed) {
             let found = files.find(mapping.path).and_then(|(place, bytes)| {
                 let begin = usize::try_from(mapping.offset).ok()?;
@@ -126,14 +129,9 @@ impl<'a> Memory<'a> {
     /// The bytes from an address on, from one block or several, up to `count` of them, or up to the
     /// first one that isn't known.
     pub fn at_most(&self, address: u64, count: usize) -> Vec<u8> {
-        let mut bytes = Vec::new();
-        while let Some(held) = address.checked_add(bytes.len() as u64).and_then(|next| self.from(next)) {
-            let wanted = count - bytes.len();
-            bytes.extend(held.iter().take(wanted));
-            if bytes.len() == count {
-                break;
-            }
-        }
+        let mut bytes = vec![0; count];
+        let known = self.read_some(address, &mut bytes);
+        bytes.truncate(known);
         bytes
     }
 
@@ -141,6 +139,13 @@ impl<'a> Memory<'a> {
     /// if one of the bytes isn't known; a part of `bytes` may then have been overwritten.
     pub fn read(&self, address: u64, bytes: &mut [u8]) -> bool {
         self.read_some(address, bytes) == bytes.len()
+    }
+
+    fn read_of_process(&self, address: u64, bytes: &mut [u8]) -> usize {
+        let process = self.process.filter(|_| !bytes.is_empty());
+        let read = process.and_then(|process| process.memory(address, bytes.len() as u64)).unwrap_or_default();
+        bytes.iter_mut().zip(&read).for_each(|(byte, one)| *byte = *one);
+        read.len()
     }
 
     /// Copies the bytes from an address on into `bytes`, up to the first one that isn't known. Returns how many it has
@@ -156,6 +161,6 @@ impl<'a> Memory<'a> {
             rest.iter_mut().zip(held).for_each(|(byte, held)| *byte = *held);
             done += count;
         }
-        done
+        done + self.read_of_process(address.saturating_add(done as u64), bytes.get_mut(done..).unwrap_or(&mut []))
     }
 }

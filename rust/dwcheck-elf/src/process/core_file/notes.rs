@@ -2,7 +2,7 @@
 
 use super::registers::{read_prstatus, read_vector_registers, Thread};
 use super::{CoreError, Sender, Signal};
-use crate::process::maps::Map;
+use crate::process::maps::{can_differ, Map};
 use dwcheck_types::abi::Abi;
 use dwcheck_types::cursor::{Cursor, ReadError};
 use dwcheck_types::target::{AddressSize, Target};
@@ -19,7 +19,7 @@ const NT_ARM_PAC_MASK: u32 = 0x406;
 pub(super) const AT_SYSINFO_EHDR: u64 = libc::AT_SYSINFO_EHDR;
 
 /// The type of the entry of the auxiliary vector that has the address of the program's file name.
-const AT_EXECFN: u64 = libc::AT_EXECFN;
+pub(super) const AT_EXECFN: u64 = libc::AT_EXECFN;
 
 /// A part of a file that is mapped into memory.
 #[derive(Clone, Copy, Debug, PartialEq, Eq)]
@@ -43,6 +43,13 @@ impl<'data> Mapping<'data> {
     pub(super) fn of_live(map: &'data Map, has_changed: bool) -> Self {
         let Map { begin, end, offset, path, .. } = map;
         Mapping { begin: *begin, end: *end, offset: *offset, path, has_changed }
+    }
+
+    /// The same mapping of a process whose memory has these maps, and was only copied in parts.
+    pub(super) fn in_maps(&self, maps: &[Map]) -> Self {
+        let place = maps.partition_point(|map| map.begin < self.begin);
+        let is_known = maps.get(place).map_or(false, |map| map.begin == self.begin);
+        Mapping { has_changed: !is_known || can_differ(maps, place), ..*self }
     }
 }
 
@@ -90,7 +97,8 @@ impl<'data> Notes<'data> {
     }
 
     /// Reads a note. Does nothing for a note that isn't needed.
-    pub fn add(&mut self, owner: &[u8], kind: u32, bytes: &'data [u8]) -> Result<(), CoreError> {
+    pub fn add(&mut self, note: &Note<'data>) -> Result<(), CoreError> {
+        let Note { owner, kind, bytes } = *note;
         let read = match kind {
             NT_ARM_PAC_MASK if owner == b"LINUX" => self.add_pac_mask(bytes),
             _ if owner != b"CORE" => Ok(()),
@@ -149,6 +157,32 @@ impl<'data> Notes<'data> {
         }
         Ok(())
     }
+}
+
+/// A note of a segment: whose it is, its type, and its bytes.
+pub(super) struct Note<'data> {
+    pub owner: &'data [u8],
+    pub kind: u32,
+    pub bytes: &'data [u8],
+}
+
+/// The notes in the bytes of a segment, up to the last whole one: the file may be cut off there.
+pub(super) fn notes_in(bytes: &[u8], target: Target) -> impl Iterator<Item = Note<'_>> {
+    let mut cursor = Cursor::new(bytes, target);
+    let mut next = move || {
+        let (owner_size, size) = (cursor.number(4)?, cursor.number(4)?);
+        let kind = cursor.number(4)? as u32;
+        let mut padded = |size: u64| {
+            let taken = cursor.take(size)?;
+            // After the last note, the padding may be missing.
+            let padding = (4 - size % 4) % 4;
+            cursor.take(padding.min(cursor.rest().len() as u64)).map(|_| taken)
+        };
+        let owner = padded(owner_size)?;
+        let owner = owner.strip_suffix(&[0]).unwrap_or(owner);
+        Ok::<_, ReadError>(Note { owner, kind, bytes: padded(size)? })
+    };
+    std::iter::from_fn(move || next().ok())
 }
 
 /// Reads an `NT_SIGINFO` note, which is a `siginfo_t`.

@@ -49,6 +49,11 @@ impl<'data> CoreSegment<'data> {
         CoreSegment { address, bytes, size, is_executable: false, is_writable: false, is_cut: false }
     }
 
+    /// The same memory, of which the file isn't there.
+    pub(super) fn without_bytes(&self) -> Self {
+        CoreSegment { bytes: &[], is_cut: false, ..*self }
+    }
+
     /// Memory of a process that runs, of which nothing was copied.
     pub(super) fn of_map(map: &Map) -> Self {
         CoreSegment {

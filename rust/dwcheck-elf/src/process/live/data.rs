@@ -20,7 +20,7 @@ enum Use {
 }
 
 /// The memory that can differ from its files, each part with its address, up to [`DATA_LIMIT`].
-pub(super) fn copy_changeable_memory(process: &Process) -> Vec<(u64, Vec<u8>)> {
+pub(crate) fn copy_changeable_memory(process: &Process) -> Vec<(u64, Vec<u8>)> {
     let mut parts = changeable_parts(&process.maps);
     parts.sort_by_key(|(used, map)| (*used, map.begin));
     let mut left = DATA_LIMIT;

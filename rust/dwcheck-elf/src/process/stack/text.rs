@@ -17,6 +17,9 @@ impl fmt::Display for Why {
             Stop::ReturnUnreadable => f.write_str("return unreadable"),
             Stop::ReturnDivisionByZero => f.write_str("return division by zero"),
             Stop::NotExecutable(address) => write!(f, "return address {} isn't code", Address(self.0, address)),
+            Stop::NotKnown(address) => {
+                write!(f, "return address {} is in no module, and may be code", Address(self.0, address))
+            }
             Stop::CfaNotGrowing => f.write_str("CFA doesn't grow"),
             Stop::Loop => f.write_str("loop"),
         }

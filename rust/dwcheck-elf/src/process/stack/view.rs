@@ -6,6 +6,9 @@ use dwcheck::Error;
 use dwcheck_types::abi::Abi;
 use dwcheck_types::target::Target;
 
+/// Below this address no process has code: Linux maps nothing there (`vm.mmap_min_addr`).
+const LOWEST: u64 = 1 << 16;
+
 impl View for Stacks<'_> {
     fn target(&self) -> Target {
         self.core.target()
@@ -31,6 +34,11 @@ impl View for Stacks<'_> {
         // The files of modules say which of their addresses are code.
         let tables = self.tables.borrow();
         tables.module_at(address).is_some() || is_executable && !tables.is_in_module(address)
+    }
+
+    fn may_be_code(&self, address: u64) -> bool {
+        let is_known = || self.memory.from(address).is_some() || self.core.is_executable(address);
+        self.core.lacks_maps() && address >= LOWEST && !is_known() && !self.tables.borrow().is_in_module(address)
     }
 
     fn file_at(&self, address: u64) -> Option<usize> {

@@ -104,12 +104,18 @@ impl Walker<'_, '_> {
             Answer::DivisionByZero => return Caller::None(Stop::ReturnDivisionByZero),
             _ => return Caller::None(Stop::ReturnUnreadable),
         };
+        let known = caller.known();
         // A signal may have interrupted anything, but a call is only in code.
         if !is_signal_frame && !self.stacks.is_in_code(address) {
-            return Caller::None(Stop::NotExecutable(address));
+            if !self.stacks.may_be_code(address) {
+                return Caller::None(Stop::NotExecutable(address));
+            }
+            if (Guesser { view: self.stacks, registers: &known }).by_chain().is_none() {
+                return Caller::None(Stop::NotKnown(address));
+            }
         }
         let next = Frame { is_after_call: !is_signal_frame, ..Frame::caller(address, FoundBy::Row) };
-        Caller::Frame(next, caller.known())
+        Caller::Frame(next, known)
     }
 
     fn by_guess(&mut self, frame: &mut Frame, guess: Option<Guess>) -> Caller {
