@@ -1,7 +1,11 @@
 //! Reads symbol files whose bytes were changed at random, in one process: `damaged COUNT SEED SYMBOLS..`. Each has to give
 //! an answer to each question, also with a damaged index, and none takes long.
 
+#[path = "../../examples/numbers.rs"]
+mod numbers;
+
 use dwcheck_symbols::{Index, Stamp, SymbolFile};
+use numbers::Numbers;
 use std::error::Error;
 use std::time::{Duration, Instant};
 
@@ -27,46 +31,34 @@ const LONGEST: Duration = Duration::from_secs(5);
 /// How many addresses are asked for.
 const ASKED: usize = 20;
 
-/// Pseudorandom numbers (xorshift).
-struct Numbers(u64);
-
-impl Numbers {
-    fn below(&mut self, limit: usize) -> usize {
-        self.0 ^= self.0 << 13;
-        self.0 ^= self.0 >> 7;
-        self.0 ^= self.0 << 17;
-        (self.0 % limit.max(1) as u64) as usize
-    }
-
-    /// A copy in which some bytes are others, words are put in, or parts are repeated. Some copies are cut off.
-    fn changed(&mut self, whole: &[u8]) -> Vec<u8> {
-        let mut bytes = whole.to_vec();
-        for _ in 0..1 + self.below(8) {
-            let at = self.below(bytes.len());
-            match self.below(4) {
-                0 => bytes[at] = self.below(256) as u8,
-                1 => bytes[at] ^= 1 << self.below(8),
-                2 => drop(bytes.splice(at..at, ODD[self.below(ODD.len())].bytes())),
-                _ => {
-                    let end = (at + self.below(400)).min(bytes.len());
-                    bytes.extend_from_within(at..end);
-                }
+/// A copy in which some bytes are others, words are put in, or parts are repeated. Some copies are cut off.
+fn changed(numbers: &mut Numbers, whole: &[u8]) -> Vec<u8> {
+    let mut bytes = whole.to_vec();
+    for _ in 0..1 + numbers.below(8) {
+        let at = numbers.below(bytes.len());
+        match numbers.below(4) {
+            0 => bytes[at] = numbers.below(256) as u8,
+            1 => bytes[at] ^= 1 << numbers.below(8),
+            2 => drop(bytes.splice(at..at, ODD[numbers.below(ODD.len())].bytes())),
+            _ => {
+                let end = (at + numbers.below(400)).min(bytes.len());
+                bytes.extend_from_within(at..end);
             }
         }
-        if self.below(10) == 0 {
-            bytes.truncate(self.below(bytes.len()));
-        }
-        bytes
     }
+    if numbers.below(10) == 0 {
+        bytes.truncate(numbers.below(bytes.len()));
+    }
+    bytes
+}
 
-    /// An index in which a number is another one.
-    fn changed_index(&mut self, index: &Index<'_>) -> Vec<u8> {
-        let mut bytes = index.bytes().to_vec();
-        let at = self.below(bytes.len() - 8) / 8 * 8;
-        let number = [0, 1, u64::MAX, 1 << 63, self.0, self.0 & 0xffff][self.below(6)];
-        bytes[at..at + 8].copy_from_slice(&number.to_le_bytes());
-        bytes
-    }
+/// An index in which a number is another one.
+fn changed_index(numbers: &mut Numbers, index: &Index<'_>) -> Vec<u8> {
+    let mut bytes = index.bytes().to_vec();
+    let at = numbers.below(bytes.len() - 8) / 8 * 8;
+    let number = [0, 1, u64::MAX, 1 << 63, numbers.any(), numbers.any() & 0xffff][numbers.below(6)];
+    bytes[at..at + 8].copy_from_slice(&number.to_le_bytes());
+    bytes
 }
 
 /// Asks a symbol file for some addresses, and returns how many have an answer.
@@ -96,15 +88,15 @@ fn main() -> Result<(), Box<dyn Error>> {
         _ => return Err("usage: damaged COUNT SEED SYMBOLS..".into()),
     };
     let files = words[2..].iter().map(std::fs::read).collect::<Result<Vec<_>, _>>()?;
-    let mut numbers = Numbers(seed.wrapping_mul(0x9e37_79b9_7f4a_7c15) | 1);
     let (mut read, mut answers, mut indexes) = (0, 0, 0);
     for number in 0..count {
-        let bytes = numbers.changed(&files[number % files.len()]);
+        let mut numbers = Numbers::of(seed, number as u64);
+        let bytes = changed(&mut numbers, &files[number % files.len()]);
         let begin = Instant::now();
         if let Ok(symbols) = SymbolFile::read(&bytes) {
             answers += ask(&symbols, &mut numbers);
             assert!(symbols.rows().count() <= bytes.len());
-            let index = numbers.changed_index(symbols.index());
+            let index = changed_index(&mut numbers, symbols.index());
             if let Ok(index) = Index::kept(&index, &bytes, Stamp::default()) {
                 ask(&SymbolFile::with_index(&bytes, index)?, &mut numbers);
                 indexes += 1;
