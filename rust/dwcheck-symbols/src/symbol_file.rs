@@ -220,6 +220,18 @@ impl<'data> SymbolFile<'data> {
         RowsOfFrame::at(self.text, offset)?.row(address)
     }
 
+    /// The rows of the frame that has an address, up to one that can't be read.
+    pub fn rows_of_frame(&self, address: u64) -> Vec<Row<'data>> {
+        let mut rows = self.frame(address).and_then(|(offset, _)| RowsOfFrame::at(self.text, offset));
+        let next = || rows.as_mut().and_then(RowsOfFrame::advance).cloned();
+        std::iter::from_fn(next).filter(|row| row.begin < row.end).collect()
+    }
+
+    /// The address after the last one of the frame that has an address.
+    pub fn end_of_frame(&self, address: u64) -> Option<u64> {
+        self.frame(address).map(|(_, frame)| frame.begin + frame.size)
+    }
+
     /// All rows, by the addresses of their frame records.
     pub fn rows(&self) -> Rows<'_, 'data> {
         Rows { symbols: self, next: 0, open: None }

@@ -8,4 +8,5 @@ pub mod maps;
 pub mod modules;
 pub mod stack;
 pub mod state_file;
+pub mod symbol_store;
 pub mod without_row;
