@@ -8,10 +8,14 @@
 //! 1; a panic or memory that can't be had ends it, too. At the end it says how many were read, how many of them were
 //! damaged as the reader noticed, how many samples they had, and the most memory and time that one took.
 
+#[path = "../../examples/numbers.rs"]
+mod numbers;
+
 use dwcheck_elf::mapped::Bytes;
 use dwcheck_profile::script::{self, ScriptOptions};
 use dwcheck_profile::{firefox, folded, html, pprof, speedscope, top, Damage};
 use dwcheck_profile::{Names, Options, Profile, Recording, SearchPaths};
+use numbers::Numbers;
 use std::alloc::{GlobalAlloc, Layout, System};
 use std::fs::File;
 use std::io::{self, Write};
@@ -45,32 +49,13 @@ unsafe impl GlobalAlloc for Counted {
 #[global_allocator]
 static ALLOCATOR: Counted = Counted;
 
-/// Pseudorandom numbers, the same in each run (xorshift).
-struct Numbers(u64);
-
-impl Numbers {
-    /// Those of a recording. Close seeds give numbers that have nothing to do with each other.
-    fn of(seed: u64, at: u64) -> Numbers {
-        let mut mixed = (seed << 32 ^ at).wrapping_add(1).wrapping_mul(0x9e37_79b9_7f4a_7c15);
-        mixed = (mixed ^ mixed >> 31).wrapping_mul(0xbf58_476d_1ce4_e5b9);
-        Numbers(mixed | 1)
-    }
-
-    fn below(&mut self, limit: usize) -> usize {
-        self.0 ^= self.0 << 13;
-        self.0 ^= self.0 >> 7;
-        self.0 ^= self.0 << 17;
-        (self.0 % limit.max(1) as u64) as usize
-    }
-
-    /// A number that programs often don't expect.
-    fn odd(&mut self) -> u64 {
-        const ODD: [u64; 12] =
-            [0, 1, 7, 8, 0xffff, 1 << 31, 0xffff_ffff, 1 << 32, 1 << 47, 1 << 63, u64::MAX - 7, u64::MAX];
-        match self.below(3) {
-            0 => self.below(1 << 16) as u64,
-            _ => ODD[self.below(ODD.len())],
-        }
+/// A number that programs often don't expect.
+fn odd(numbers: &mut Numbers) -> u64 {
+    const ODD: [u64; 12] =
+        [0, 1, 7, 8, 0xffff, 1 << 31, 0xffff_ffff, 1 << 32, 1 << 47, 1 << 63, u64::MAX - 7, u64::MAX];
+    match numbers.below(3) {
+        0 => numbers.below(1 << 16) as u64,
+        _ => ODD[numbers.below(ODD.len())],
     }
 }
 
@@ -97,20 +82,20 @@ fn damage(numbers: &mut Numbers, bytes: &mut Vec<u8>) {
     for _ in 0..1 + numbers.below(6) {
         let (begin, end) = records[numbers.below(records.len())];
         match numbers.below(12) {
-            0 => put(bytes, begin + 6, &(numbers.odd() as u16).to_le_bytes()),
+            0 => put(bytes, begin + 6, &(odd(numbers) as u16).to_le_bytes()),
             1 => put(bytes, begin, &(numbers.below(90) as u32).to_le_bytes()),
-            2 => put(bytes, begin + 4, &(numbers.odd() as u16).to_le_bytes()),
+            2 => put(bytes, begin + 4, &(odd(numbers) as u16).to_le_bytes()),
             3..=5 => {
                 let at = begin + 8 * (1 + numbers.below(((end - begin) / 8).min(24)));
-                put(bytes, at, &numbers.odd().to_le_bytes());
+                put(bytes, at, &odd(numbers).to_le_bytes());
             }
             6 => {
                 let at = begin + 8 + 4 * numbers.below((end - begin) / 4);
-                put(bytes, at, &(numbers.odd() as u32).to_le_bytes());
+                put(bytes, at, &(odd(numbers) as u32).to_le_bytes());
             }
             7 => {
                 let at = 8 * numbers.below(50);
-                put(bytes, at, &numbers.odd().to_le_bytes());
+                put(bytes, at, &odd(numbers).to_le_bytes());
             }
             8 => {
                 let other = records[numbers.below(records.len())];

@@ -9,9 +9,13 @@
 //! says which one and ends with status 1; a panic ends it, too. At the end it says how many were accepted, how often each
 //! rule was broken, and the longest time that one took. A case depends on the seed and its number alone.
 
+#[path = "../../examples/numbers.rs"]
+mod numbers;
+
 use dwcheck_elf::program::Program;
 use dwcheck_elf::sframe::{SframeError, SframeSection};
 use dwcheck_elf::target::Order;
+use numbers::Numbers;
 use std::borrow::Cow;
 use std::collections::BTreeMap;
 use std::time::{Duration, Instant};
@@ -26,27 +30,10 @@ const FIELDS: [(usize, usize); 12] =
 /// The bytes of the header.
 const HEADER: usize = 28;
 
-/// Pseudorandom numbers, the same in each run (xorshift).
-struct Numbers(u64);
-
-impl Numbers {
-    fn of(seed: u64, at: u64) -> Numbers {
-        let mut mixed = (seed << 32 ^ at).wrapping_add(1).wrapping_mul(0x9e37_79b9_7f4a_7c15);
-        mixed = (mixed ^ mixed >> 31).wrapping_mul(0xbf58_476d_1ce4_e5b9);
-        Numbers(mixed | 1)
-    }
-
-    fn below(&mut self, limit: usize) -> usize {
-        self.0 ^= self.0 << 13;
-        self.0 ^= self.0 >> 7;
-        self.0 ^= self.0 << 17;
-        (self.0 % limit.max(1) as u64) as usize
-    }
-
-    fn odd(&mut self) -> u64 {
-        const ODD: [u64; 10] = [0, 1, 2, 3, 4, 0x7f, 0x80, 0xffff, 1 << 31, u32::MAX as u64];
-        ODD[self.below(ODD.len())]
-    }
+/// A number that programs often don't expect.
+fn odd(numbers: &mut Numbers) -> u64 {
+    const ODD: [u64; 10] = [0, 1, 2, 3, 4, 0x7f, 0x80, 0xffff, 1 << 31, u32::MAX as u64];
+    ODD[numbers.below(ODD.len())]
 }
 
 /// Writes a number into bytes, as far as they go.
@@ -65,9 +52,9 @@ fn damage(bytes: &mut Vec<u8>, numbers: &mut Numbers) {
         0 => bytes[numbers.below(length)] = numbers.below(256) as u8,
         1 => {
             let (place, size) = FIELDS[numbers.below(FIELDS.len())];
-            put(bytes, place, size, numbers.odd());
+            put(bytes, place, size, odd(numbers));
         }
-        2 => put(bytes, HEADER + numbers.below(length - HEADER), 1 << numbers.below(4), numbers.odd()),
+        2 => put(bytes, HEADER + numbers.below(length - HEADER), 1 << numbers.below(4), odd(numbers)),
         3 => bytes.truncate(numbers.below(length)),
         4 => {
             // An entry of the index, or a part of one, where another one is.

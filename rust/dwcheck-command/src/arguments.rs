@@ -52,6 +52,9 @@ pub enum Command {
     /// Compare the unwind tables of programs with each other
     #[command(after_help = COMPARE_STATUS)]
     Compare(CompareArguments),
+    /// Write Breakpad's symbol files: names, lines and rows of programs, for crash reports (x86-64, i386, aarch64)
+    #[command(after_help = SYMBOLS_STATUS)]
+    Symbols(SymbolsArguments),
     /// Run a program, and compare rows with what is so meanwhile (x86-64)
     #[command(after_help = TRACE_STATUS)]
     Trace(TraceArguments),
@@ -89,6 +92,9 @@ Exit status: 0 nothing found; 1 findings; 2 a bad argument; 3 a file that can't 
 
 const COMPARE_STATUS: &str = "Example: dwcheck-elf compare build/
 Exit status: 0 nothing differs; 1 findings; 2 a bad argument; 3 a file that can't be read";
+
+const SYMBOLS_STATUS: &str = "Example: dwcheck-elf symbols -o symbols build/program build/libuser.so
+Exit status: 0 written; 1 refused by --strict; 2 a bad argument; 3 a file that can't be read or written";
 
 /// What to print in addition to the result.
 #[derive(Args, Clone, Copy, Debug)]
@@ -187,6 +193,14 @@ pub struct LocsArguments {
     pub state: Option<PathBuf>,
 }
 
+/// Whether servers are asked.
+#[derive(Args, Clone, Copy, Debug)]
+pub struct DebuginfodArguments {
+    /// Don't ask the servers that DEBUGINFOD_URLS names for programs and debug information that aren't here
+    #[arg(long)]
+    pub no_debuginfod: bool,
+}
+
 #[derive(Args, Debug)]
 pub struct StackArguments {
     /// A core file or a minidump of x86-64, i386 or aarch64, which may be compressed by zstd, lz4, xz or gzip; before it,
@@ -210,6 +224,16 @@ pub struct StackArguments {
     /// and build id. Can be given several times
     #[arg(long, value_name = "FOLDER")]
     pub path: Vec<PathBuf>,
+    /// Walk and name frames by Breakpad's symbol files where the ELF file of a module isn't there: those in this store,
+    /// as NAME/ID/NAME.sym, or this file. Can be given several times
+    #[arg(long, value_name = "STORE", conflicts_with = "pid")]
+    pub symbols: Vec<PathBuf>,
+    /// With --symbols: keep an index beside each symbol file that is used, as NAME.sym.index, so that a large one
+    /// answers at once
+    #[arg(long, requires = "symbols")]
+    pub keep_index: bool,
+    #[command(flatten)]
+    pub debuginfod: DebuginfodArguments,
     /// Print at most this many frames of each thread
     #[arg(long, value_name = "N", default_value_t = 10_000)]
     pub limit: usize,
@@ -319,6 +343,8 @@ pub struct VarsArguments {
     /// and build id. Can be given several times
     #[arg(long, value_name = "FOLDER", conflicts_with_all = ["program", "pid"])]
     pub path: Vec<PathBuf>,
+    #[command(flatten)]
+    pub debuginfod: DebuginfodArguments,
     /// Follow structures and arrays this deep, at most 64. What is deeper is {..}
     #[arg(long, value_name = "N", default_value_t = 1)]
     pub depth: usize,
@@ -550,7 +576,27 @@ pub struct CompareArguments {
     /// Leave separate files of debug information out
     #[arg(long)]
     pub no_separate: bool,
+    /// Compare with Breakpad's symbol files too: those in this store, as NAME/ID/NAME.sym, or this file
+    #[arg(long, value_name = "STORE")]
+    pub symbols: Option<PathBuf>,
     /// Read this many files at once, instead of one for each processor
     #[arg(long, value_name = "N")]
     pub jobs: Option<usize>,
+}
+
+#[derive(Args, Debug)]
+pub struct SymbolsArguments {
+    /// Programs and libraries
+    #[arg(required = true)]
+    pub programs: Vec<PathBuf>,
+    /// Write each symbol file into this folder, as NAME/ID/NAME.sym. Without it, the one of the only program is written
+    /// on standard output
+    #[arg(short, long, value_name = "STORE")]
+    pub output: Option<PathBuf>,
+    /// Write no symbol file that leaves out something that its rows can't say
+    #[arg(long)]
+    pub strict: bool,
+    /// Write names of functions as they are in the file, not demangled
+    #[arg(long)]
+    pub raw_names: bool,
 }

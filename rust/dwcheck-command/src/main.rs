@@ -1,12 +1,16 @@
 //! Checks the unwind tables of ELF programs, shows their rows, unwinds by them, compares them with
-//! the code and with programs that run, and prints the stacks of core files and of recordings of perf.
+//! the code and with programs that run, writes symbol files, and prints the stacks of core files and of recordings of
+//! perf.
 
 mod arguments;
 mod check;
 mod compare;
 mod crash;
+mod debuginfod;
 mod end;
+mod findings;
 mod handler;
+mod known;
 mod lint;
 mod lists;
 mod opened;
@@ -19,6 +23,7 @@ mod sarif;
 mod sframe;
 mod stack;
 mod survey;
+mod symbols;
 mod trace;
 mod vars;
 mod walks;
@@ -71,6 +76,7 @@ fn run_command(command: Command, out: &mut impl Write) -> Result<Done, Failure> 
         Command::Lint(arguments) if arguments.confirm => trace::confirm(&arguments, out),
         Command::Lint(arguments) => lint::lint(&arguments, out),
         Command::Compare(arguments) => compare::compare(&arguments, out),
+        Command::Symbols(arguments) => symbols::symbols(&arguments, out),
         Command::Trace(arguments) => trace::trace(&arguments),
         Command::Profile(arguments) => profile::profile(&arguments, out),
         Command::Report(arguments) => report::report(&arguments, out),

@@ -112,6 +112,21 @@ impl Drop for Output {
     }
 }
 
+/// A file without a name, in the folder of temporary files, which is gone when it is closed.
+pub fn temporary_file() -> Result<File, Failure> {
+    let folder = std::env::temp_dir();
+    let nameless = OpenOptions::new().read(true).write(true).custom_flags(libc::O_TMPFILE).open(&folder);
+    nameless.or_else(|_| named_temporary_file(&folder)).map_err(|error| cannot_write(&folder, &error))
+}
+
+/// The same where the file system has no files without names: it has one until it is open.
+fn named_temporary_file(folder: &Path) -> io::Result<File> {
+    let path = folder.join(format!("dwcheck-elf.{}.part", std::process::id()));
+    let file = OpenOptions::new().read(true).write(true).create_new(true).mode(0o600).open(&path)?;
+    fs::remove_file(path)?;
+    Ok(file)
+}
+
 fn cannot_write(path: &Path, error: &io::Error) -> Failure {
     Failure::File(format!("cannot write {}: {}", shown_path(path), error))
 }

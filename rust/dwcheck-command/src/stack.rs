@@ -4,12 +4,15 @@ mod threads;
 
 use crate::arguments::StackArguments;
 use crate::crash::Crash;
+use crate::debuginfod::{fetcher, note_problems};
 use crate::end::{shown_path, Done, Failure};
 use crate::opened::{open_core, open_elf};
 use dwcheck_elf::core_file::{CoreError, CoreFile, Files, MappedFile, Search};
+use dwcheck_elf::fetch::Fetcher;
 use dwcheck_elf::live::Snapshot;
 use dwcheck_elf::mapped::Bytes;
 use dwcheck_elf::stack::{NameOptions, Stacks};
+use dwcheck_elf::symbol_store::{SymbolFiles, SymbolStore};
 use dwcheck_elf::variables::Shape;
 use std::ffi::OsStr;
 use std::io::{self, Write};
@@ -44,7 +47,8 @@ fn stack_of_core(
 ) -> Result<Done, Failure> {
     let bytes = open_core(path)?;
     let core = CoreFile::read(&bytes).map_err(|error| unread_core(path, &error))?;
-    let mut files = Files::read_with(&core, &search_in(&arguments.root, &arguments.path)?);
+    let fetcher = fetcher(arguments.debuginfod);
+    let mut files = Files::read_with(&core, &search_in(&arguments.root, &arguments.path, &fetcher)?);
     let opened = match program {
         Some(program) => Some(open_program(program)?),
         None if !core.names_files() => {
@@ -53,7 +57,9 @@ fn stack_of_core(
         None => None,
     };
     let is_used = opened.as_ref().map_or(false, |opened| files.use_program(&core, &opened.bytes));
+    let symbols = SymbolFiles::find(&core, &files, &symbol_stores(arguments)?);
     let mut stacks = Stacks::of(&core, &files);
+    stacks.use_symbols(&symbols);
     if let Some(opened) = &opened {
         stacks.add_program(&opened.path, &opened.bytes);
     }
@@ -72,7 +78,9 @@ fn stack_of_core(
     }
     warnings.extend(core.problems().iter().map(|problem| format!("{}: {}", shown_path(path), problem)));
     warnings.extend(stacks.without_stack().map(|without| format!("{}: {}", shown_path(path), without)));
-    print_stacks(arguments, &core, (&mut stacks, None), warnings, out)
+    let printed = print_stacks(arguments, &core, (&mut stacks, None), warnings, out);
+    note_problems(&fetcher);
+    printed
 }
 
 fn stack_of_process(arguments: &StackArguments, pid: u32, out: &mut impl Write) -> Result<Done, Failure> {
@@ -136,7 +144,7 @@ fn open_program(program: &Path) -> Result<OpenedProgram, Failure> {
 }
 
 /// Where the files of a process are looked for: in the folder that stands for `/`, and in given folders.
-pub fn search_in(root: &Path, folders: &[PathBuf]) -> Result<Search, Failure> {
+pub fn search_in(root: &Path, folders: &[PathBuf], fetcher: &Fetcher) -> Result<Search, Failure> {
     let whole = |folder: &PathBuf| match folder.canonicalize() {
         Ok(whole) if whole.is_dir() => Ok(whole),
         Ok(_) => {
@@ -145,7 +153,17 @@ pub fn search_in(root: &Path, folders: &[PathBuf]) -> Result<Search, Failure> {
         Err(error) => Err(Failure::reading(folder, &error)),
     };
     let folders = folders.iter().map(whole).collect::<Result<_, _>>()?;
-    Ok(Search { root: root.to_path_buf(), folders })
+    Ok(Search { root: root.to_path_buf(), folders, fetcher: fetcher.clone() })
+}
+
+/// Where symbol files are looked for.
+fn symbol_stores(arguments: &StackArguments) -> Result<Vec<SymbolStore>, Failure> {
+    let keeps_indexes = arguments.keep_index;
+    let store = |path: &PathBuf| match path.metadata() {
+        Ok(_) => Ok(SymbolStore { path: path.clone(), keeps_indexes }),
+        Err(error) => Err(Failure::reading(path, &error)),
+    };
+    arguments.symbols.iter().map(store).collect()
 }
 
 /// The failure for a core file that can't be read.

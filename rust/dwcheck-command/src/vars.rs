@@ -2,6 +2,7 @@
 //! as far as they are known.
 
 use crate::arguments::VarsArguments;
+use crate::debuginfod::{fetcher, note_problems};
 use crate::end::{shown_path, Done, Failure};
 use crate::opened::{address_argument, number_argument, open_core, open_elf, parse_program, write_note, Opened};
 use crate::stack::search_in;
@@ -53,8 +54,11 @@ fn variables_of_core(arguments: &VarsArguments, path: &Path, shape: Shape) -> Re
     let bytes = open_core(path)?;
     let core = CoreFile::read(&bytes).map_err(|error| Failure::File(format!("{}: {}", shown_path(path), error)))?;
     core.problems().iter().for_each(|problem| write_note(path, problem));
-    let files = Files::read_with(&core, &search_in(&arguments.root, &arguments.path)?);
-    variables_of_frame(arguments, &core, &files, shape)
+    let fetcher = fetcher(arguments.debuginfod);
+    let files = Files::read_with(&core, &search_in(&arguments.root, &arguments.path, &fetcher)?);
+    let functions = variables_of_frame(arguments, &core, &files, shape);
+    note_problems(&fetcher);
+    functions
 }
 
 /// The process goes on once the thread's registers and the memory are copied.
@@ -121,7 +125,8 @@ fn variables_of_program(
     let load = number_argument("--load", &arguments.load, target)?;
     let address = address_argument("ADDRESS", at, target, &program.functions(), load)?;
     let state = arguments.state.as_ref().map_or(Ok(StateFile::default()), |path| read_state_file(path, target))?;
-    let files = DebugFiles::default();
+    let fetcher = fetcher(arguments.debuginfod);
+    let files = DebugFiles::default().fetching(&fetcher);
     let variables = read_debug_information(path, &program, &files)?;
     let process = match &arguments.state {
         Some(_) => read_unwind_tables(path, &program, load, done)?,

@@ -19,12 +19,12 @@ mod layers;
 mod process;
 
 pub use cfi::{eh_frame_hdr, frames, one_by_one, row, sframe, text, validate};
-pub use check::{compare, fault, inspect, lint, program_report};
+pub use check::{compare, fault, inspect, lint, program_report, symbols};
 pub use debug::{expression, lines, loclists, variables};
 pub use dwcheck_types::{abi, target};
-pub use elf::{debug_files, functions, image, mapped, other_file, program, relocate, unpacked};
+pub use elf::{debug_files, fetch, functions, image, mapped, other_file, program, relocate, unpacked};
 pub use error::Error;
-pub use process::{core_file, dying, live, modules, stack, state_file};
+pub use process::{core_file, dying, live, modules, stack, state_file, symbol_store};
 
 /// The location lists of a program.
 pub mod lists {

@@ -1,43 +1,35 @@
 //! Reads minidumps whose bytes were changed at random, in one process: `damaged COUNT SEED MINIDUMP..`. Each has to give an
 //! answer, of which no more is copied than the file has. bench/elf/damage.py does the same with the whole program.
 
+#[path = "../../examples/numbers.rs"]
+mod numbers;
+
 use dwcheck_minidump::Minidump;
+use numbers::Numbers;
 use std::error::Error;
 
 /// Numbers that are often wrong: counts, sizes and offsets.
 const ODD: [u32; 10] = [0, 1, 2, 0xff, 0xffff, 1_000_000, 0x3fff_ffff, 0x7fff_ffff, 0xffff_fff0, u32::MAX];
 
-/// Pseudorandom numbers (xorshift).
-struct Numbers(u64);
-
-impl Numbers {
-    fn below(&mut self, limit: usize) -> usize {
-        self.0 ^= self.0 << 13;
-        self.0 ^= self.0 >> 7;
-        self.0 ^= self.0 << 17;
-        (self.0 % limit.max(1) as u64) as usize
+/// A copy in which some numbers of 4 bytes are others, mostly in the first part. Some copies are cut off.
+fn changed(numbers: &mut Numbers, whole: &[u8]) -> Vec<u8> {
+    let mut bytes = whole.to_vec();
+    for _ in 0..1 + numbers.below(6) {
+        let end = if numbers.below(3) == 0 { bytes.len() } else { bytes.len().min(6000) };
+        let at = numbers.below(end.saturating_sub(4)) / 4 * 4;
+        let size = bytes.len() as u32;
+        let number = match numbers.below(4) {
+            0 => ODD[numbers.below(ODD.len())],
+            1 => size.wrapping_sub(numbers.below(64) as u32),
+            2 => numbers.below(size as usize) as u32,
+            _ => numbers.any() as u32,
+        };
+        bytes[at..at + 4].copy_from_slice(&number.to_le_bytes());
     }
-
-    /// A copy in which some numbers of 4 bytes are others, mostly in the first part. Some copies are cut off.
-    fn changed(&mut self, whole: &[u8]) -> Vec<u8> {
-        let mut bytes = whole.to_vec();
-        for _ in 0..1 + self.below(6) {
-            let end = if self.below(3) == 0 { bytes.len() } else { bytes.len().min(6000) };
-            let at = self.below(end.saturating_sub(4)) / 4 * 4;
-            let size = bytes.len() as u32;
-            let number = match self.below(4) {
-                0 => ODD[self.below(ODD.len())],
-                1 => size.wrapping_sub(self.below(64) as u32),
-                2 => self.below(size as usize) as u32,
-                _ => self.0 as u32,
-            };
-            bytes[at..at + 4].copy_from_slice(&number.to_le_bytes());
-        }
-        if self.below(20) == 0 {
-            bytes.truncate(self.below(whole.len()));
-        }
-        bytes
+    if numbers.below(20) == 0 {
+        bytes.truncate(numbers.below(whole.len()));
     }
+    bytes
 }
 
 /// How many bytes of names and annotations were copied.
@@ -55,10 +47,9 @@ fn main() -> Result<(), Box<dyn Error>> {
         _ => return Err("usage: damaged COUNT SEED MINIDUMP..".into()),
     };
     let files = words[2..].iter().map(std::fs::read).collect::<Result<Vec<_>, _>>()?;
-    let mut numbers = Numbers(seed.wrapping_mul(0x9e37_79b9_7f4a_7c15) | 1);
     let (mut read, mut problems) = (0, 0);
     for number in 0..count {
-        let bytes = numbers.changed(&files[number % files.len()]);
+        let bytes = changed(&mut Numbers::of(seed, number as u64), &files[number % files.len()]);
         if let Ok(dump) = Minidump::read(&bytes) {
             // A character of UTF-16 has 2 bytes there, and up to 3 bytes here.
             assert!(

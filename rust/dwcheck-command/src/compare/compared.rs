@@ -1,15 +1,18 @@
 //! Compares the tables of one file.
 
 use super::finding::File;
-use crate::lint::known::Key;
+use crate::findings::WrittenFinding;
 use crate::survey::files::map_file;
-use dwcheck_elf::compare::{compare, Compared, HeaderPair, Kind, Pair, Severity};
+use dwcheck_elf::compare::{compare, Compared, HeaderPair, Kind, Others, Pair};
 use dwcheck_elf::debug_files::DebugFiles;
 use dwcheck_elf::functions::Functions;
 use dwcheck_elf::lines::Lines;
 use dwcheck_elf::lint::LintError;
+use dwcheck_elf::mapped::Bytes;
 use dwcheck_elf::program::Program;
+use dwcheck_symbols::{debug_id, Identity};
 use serde_json::{json, Value};
+use std::io;
 use std::path::{Path, PathBuf};
 use typed_arena::Arena;
 
@@ -21,6 +24,8 @@ pub struct Shown {
     pub sarif: bool,
     /// Whether the separate file of debug information is read.
     pub has_separate: bool,
+    /// The store in which symbol files are, or the only one.
+    pub symbols: Option<PathBuf>,
     /// The kinds that are shown. Empty if all are.
     pub kinds: Vec<Kind>,
     /// The names of all kinds.
@@ -39,15 +44,6 @@ pub enum Outcome {
     Compared { findings: Vec<WrittenFinding>, bytes: u64, entries: usize, unused: Vec<String>, texts: Vec<String> },
     /// The file can't be read.
     Unread(String),
-}
-
-/// A finding, as it is written.
-pub struct WrittenFinding {
-    pub key: Key,
-    pub severity: Severity,
-    pub text: String,
-    /// The finding as a result of SARIF.
-    pub sarif: Option<Value>,
 }
 
 impl Shown {
@@ -74,7 +70,9 @@ fn compare_bytes(path: &Path, data: &[u8], shown: &Shown) -> Outcome {
     let files = DebugFiles::default();
     let mut unused = Vec::new();
     let separate = if shown.has_separate { separate_file(path, &program, &files, &mut unused) } else { None };
-    let found = compare(&program, separate.as_ref(), &|| program.functions());
+    let symbols = shown.symbols.as_deref().and_then(|store| symbol_file(path, &program, store, &mut unused));
+    let others = Others { separate: separate.as_ref(), symbols: symbols.as_deref() };
+    let found = compare(&program, others, &|| program.functions());
     unused.extend(found.unused.iter().cloned());
     let texts = coverage_lines(path, &found, shown);
     let bytes = found.pairs.iter().map(|pair| pair.bytes).sum();
@@ -108,6 +106,26 @@ fn separate_file<'f>(
         Ok(None) => None,
         Err((file, why)) => {
             unused.push(format!("{}: {}", crate::end::shown_path(&file), why));
+            None
+        }
+    }
+}
+
+/// The symbol file of a program, if it is in a store. A file that was given is that of the program.
+fn symbol_file(path: &Path, program: &Program<'_>, store: &Path, unused: &mut Vec<String>) -> Option<Bytes> {
+    let whole = path.canonicalize().unwrap_or_else(|_| path.to_path_buf());
+    let found = if store.is_file() {
+        store.to_path_buf()
+    } else {
+        let name = whole.file_name()?.to_string_lossy().into_owned();
+        let (system, machine, id) = ("".into(), "".into(), debug_id(program.build_id()?).into());
+        store.join(Identity { system, machine, id, name: name.into() }.path_in_store()?)
+    };
+    match map_file(&found) {
+        Ok(bytes) => Some(bytes),
+        Err(error) if error.kind() == io::ErrorKind::NotFound => None,
+        Err(error) => {
+            unused.push(format!("{}: {}", crate::end::shown_path(&found), error));
             None
         }
     }
@@ -148,7 +166,7 @@ fn pair_text(pair: &Pair) -> String {
     let mut text = format!("{} and {}: bytes {}", first, second, pair.bytes);
     let only = [(only_first, first), (only_second, second)];
     only.iter().filter(|(bytes, _)| *bytes > 0).for_each(|(bytes, name)| {
-        text.push_str(&format!(" only-{} {}", name.section, bytes));
+        text.push_str(&format!(" only-{} {}", name.word(), bytes));
     });
     pair.not_said.iter().for_each(|(why, bytes)| text.push_str(&format!(" {} {}", why, bytes)));
     if pair.both_right > 0 {

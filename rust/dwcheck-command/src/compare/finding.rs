@@ -1,8 +1,8 @@
 //! Writes what differs between the tables of a file as text, as JSON and as SARIF.
 
-use super::compared::{Shown, WrittenFinding};
-use crate::lint::known::Key;
-use crate::lint::linted::NAMELESS;
+use super::compared::Shown;
+use crate::findings::WrittenFinding;
+use crate::known::{Key, NAMELESS};
 use crate::sarif::sarif_location;
 use dwcheck_elf::compare::{named, Difference, HeaderDifference, Kind, Pair, Severity, Support, TableRow};
 use dwcheck_elf::functions::Functions;

@@ -1,7 +1,8 @@
 //! Lints one file: its findings as they are written, and how much of it was judged.
 
-use super::known::Key;
 use super::sarif;
+use crate::findings::WrittenFinding;
+use crate::known::Key;
 use crate::survey::files::map_file;
 use dwcheck_elf::frames::Name;
 use dwcheck_elf::functions::Functions;
@@ -19,9 +20,6 @@ use dwcheck_lint::lint::Lint;
 use dwcheck_lint::module::Module;
 use std::path::{Path, PathBuf};
 use typed_arena::Arena;
-
-/// How a function without a name is shown.
-pub const NAMELESS: &str = "a function without a name";
 
 /// How many lines of an explanation are shown before a change of what is wrong, and after it.
 const AROUND: (usize, usize) = (4, 2);
@@ -46,15 +44,6 @@ pub struct Shown {
 pub struct Linted {
     pub path: PathBuf,
     pub outcome: Outcome,
-}
-
-/// A finding, as it is written.
-pub struct WrittenFinding {
-    pub key: Key,
-    pub severity: Severity,
-    pub text: String,
-    /// The finding as a result of SARIF.
-    pub sarif: Option<serde_json::Value>,
 }
 
 /// The result for a file.

@@ -104,7 +104,7 @@ fn core(bytes: &[u8], folders: &[PathBuf]) -> bool {
             return false;
         }
     };
-    let files = Files::read_with(&core, &Search { root: PathBuf::from("/"), folders: folders.to_vec() });
+    let files = Files::read_with(&core, &Search { folders: folders.to_vec(), ..Search::new("/".as_ref()) });
     let memory = core.memory(&files);
     let blocks: Vec<_> = memory.blocks().collect();
     assert!(blocks.windows(2).all(|pair| pair[0].end() <= pair[1].address));

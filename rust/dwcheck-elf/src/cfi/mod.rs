@@ -11,5 +11,8 @@ pub mod one_by_one;
 pub mod row;
 pub mod section_table;
 pub mod sframe;
+pub mod stack_cfi;
+pub mod table;
+pub mod table_row;
 pub mod text;
 pub mod validate;

@@ -10,23 +10,24 @@ mod header;
 mod pair;
 mod rules;
 mod support;
-mod tables;
 
+pub use crate::cfi::table::TableName;
+pub use crate::cfi::table_row::TableRow;
 pub use difference::{Difference, Kind, Severity, Support, KINDS};
 pub use header::{HeaderDifference, HeaderPair};
 pub use pair::{NotSaid, Pair};
 pub use support::named;
-pub use tables::{TableName, TableRow};
 
 use crate::cfi::frames::{Frames, Name};
 use crate::cfi::one_by_one::accepted_part_with_rows;
 use crate::cfi::sframe::SframeSection;
+use crate::cfi::table::Table;
 use crate::check::lint::{LintError, Sections};
 use crate::elf::functions::Functions;
 use crate::elf::program::{Kind as FileKind, Program};
 use cfa::Values;
 use dwcheck::Process;
-use tables::Table;
+use dwcheck_symbols::{Architecture, SymbolFile};
 
 /// What a comparison of a program's tables has found.
 #[derive(Debug, Default)]
@@ -44,18 +45,34 @@ pub struct Tables<'data> {
     sections: Option<Sections<'data>>,
     separate: Vec<(Frames<'data>, Process)>,
     sframe: Option<SframeSection<'data>>,
+    symbols: Option<(SymbolFile<'data>, Architecture)>,
     unused: Vec<String>,
+}
+
+/// What a program's own tables are compared with.
+#[derive(Clone, Copy, Default)]
+pub struct Others<'p, 'data> {
+    /// Its separate file of debug information.
+    pub separate: Option<&'p Program<'data>>,
+    /// The text of its symbol file.
+    pub symbols: Option<&'data [u8]>,
 }
 
 impl<'data> Tables<'data> {
     /// Reads the tables with rows of a program, and those of its separate file of debug information. Nothing is read if
     /// there are no two of them.
-    fn read(program: &Program<'data>, separate: Option<&Program<'data>>) -> Self {
-        let mut tables = Tables { sections: None, separate: Vec::new(), sframe: None, unused: Vec::new() };
+    fn read(program: &Program<'data>, Others { separate, symbols }: Others<'_, 'data>) -> Self {
+        let mut tables =
+            Tables { sections: None, separate: Vec::new(), sframe: None, symbols: None, unused: Vec::new() };
         let own = [".eh_frame", ".debug_frame", ".sframe"];
         let count = |program: &Program<'_>| own.iter().filter(|name| program.has_bytes(name)).count();
-        if count(program) == 0 || count(program) + separate.map_or(0, count) < 2 {
+        let others = separate.map_or(0, count) + usize::from(symbols.is_some());
+        if count(program) == 0 || count(program) + others < 2 {
             return tables;
+        }
+        match symbols.map(|text| symbols_of(program, text)).transpose() {
+            Ok(symbols) => tables.symbols = symbols,
+            Err(why) => tables.unused.push(why),
         }
         let sections = Sections::read(program);
         tables.unused.extend(sections.unused.iter().cloned());
@@ -81,14 +98,25 @@ impl<'data> Tables<'data> {
     }
 }
 
-/// Compares the tables of a program. `separate` is its separate file of debug information. This takes time in proportion
+/// The symbol file of a program, and its machine.
+fn symbols_of<'data>(program: &Program<'_>, text: &'data [u8]) -> Result<(SymbolFile<'data>, Architecture), String> {
+    let symbols = SymbolFile::read(text).map_err(|error| format!("the symbol file: {}", error))?;
+    let architecture = symbols.architecture().filter(|one| one.abi().machine == program.machine());
+    let architecture = architecture.ok_or("the symbol file is that of another machine")?;
+    match program.build_id() {
+        Some(id) if !symbols.identity().is_of(id) => Err("the symbol file is that of another build".to_string()),
+        _ => Ok((symbols, architecture)),
+    }
+}
+
+/// Compares the tables of a program with each other, and with others. This takes time in proportion
 /// to what they have; where something differs, also that of a lint of the program.
 pub fn compare<'data>(
     program: &Program<'data>,
-    separate: Option<&Program<'data>>,
+    others: Others<'_, 'data>,
     functions: &dyn Fn() -> Functions<'data>,
 ) -> Compared {
-    let tables = Tables::read(program, separate);
+    let tables = Tables::read(program, others);
     let mut compared = Compared { unused: tables.unused.clone(), ..Compared::default() };
     match header::compared(program) {
         Ok(header) => compared.header = header,
@@ -107,7 +135,12 @@ pub fn compare<'data>(
     let own = sections.all().iter().map(|(frames, process)| Table::of_frames(frames, process, false, is_linked));
     let of_sframe = sframe.as_ref().map(Table::of_sframe);
     let others = tables.separate.iter().map(|(frames, process)| Table::of_frames(frames, process, true, is_linked));
-    let mut all: Vec<_> = own.chain(of_sframe).chain(others).filter(|table| !table.is_empty()).collect();
+    let of_symbols = tables
+        .symbols
+        .as_ref()
+        .map(|(symbols, architecture)| Table::of_symbols(symbols, *architecture, program.image_address()));
+    let mut all: Vec<_> =
+        own.chain(of_sframe).chain(others).chain(of_symbols).filter(|table| !table.is_empty()).collect();
     let machine = LintError::of(program).ok();
     let values = machine.map(Values::new);
     if let Some((first, others)) = all.split_first_mut() {

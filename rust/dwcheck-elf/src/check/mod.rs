@@ -11,4 +11,5 @@ pub mod lists;
 pub mod page;
 pub mod program_report;
 pub mod sframe;
+pub mod symbols;
 pub mod verdict;

@@ -4,6 +4,11 @@
 mod covers;
 mod sections;
 mod unit_functions;
+mod unit_lines;
+mod whole_units;
+
+pub(crate) use unit_lines::LineRange;
+pub(crate) use whole_units::{UnitFunction, WholeUnit, WholeUnits};
 
 use crate::debug::debug_info::Slice;
 use crate::elf::program::Program;

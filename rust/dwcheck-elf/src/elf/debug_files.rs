@@ -2,6 +2,7 @@
 //! section `.gnu_debuglink`.
 
 use crate::elf::escaped::Escaped;
+use crate::elf::fetch::Fetcher;
 use crate::elf::mapped::Bytes;
 use crate::elf::program::Program;
 use std::ffi::{OsStr, OsString};
@@ -21,6 +22,8 @@ pub struct DebugFiles {
     root: PathBuf,
     /// Folders that count before it.
     folders: Vec<PathBuf>,
+    /// What fetches files that aren't in the folders.
+    fetcher: Fetcher,
     files: Arena<Bytes>,
     unpacked: Arena<Vec<u8>>,
 }
@@ -49,7 +52,12 @@ impl DebugFiles {
     /// Looks in these folders first: by build id, as in `.build-id` or without it, and by the name in `.gnu_debuglink`.
     pub(crate) fn with_folders(root: &Path, folders: &[PathBuf]) -> Self {
         let (root, folders) = (root.to_path_buf(), folders.to_vec());
-        DebugFiles { root, folders, files: Arena::new(), unpacked: Arena::new() }
+        DebugFiles { root, folders, fetcher: Fetcher::default(), files: Arena::new(), unpacked: Arena::new() }
+    }
+
+    /// Also fetches files that aren't in a folder.
+    pub fn fetching(self, fetcher: &Fetcher) -> Self {
+        DebugFiles { fetcher: fetcher.clone(), ..self }
     }
 
     /// Where the bytes of sections that are decompressed are kept.
@@ -74,8 +82,24 @@ impl DebugFiles {
                 }
             }
         }
-        match program.debug_link() {
+        let linked = match program.debug_link() {
             Some((name, checksum)) => self.linked(path, program, (name, checksum)),
+            None => Ok(None),
+        };
+        match (linked, program.build_id()) {
+            (Ok(None), Some(id)) if !program.has_section(".debug_info") => self.fetched(id),
+            (linked, _) => linked,
+        }
+    }
+
+    /// The file that a server has for a build id.
+    fn fetched(&self, id: &[u8]) -> Result<Option<(PathBuf, &Bytes)>, (PathBuf, NotUsed)> {
+        let file = match self.fetcher.debug_info(id) {
+            Some(file) => file,
+            None => return Ok(None),
+        };
+        match self.open(&file)? {
+            Some(bytes) => check_whole_build_id(file, bytes, id),
             None => Ok(None),
         }
     }
@@ -226,6 +250,19 @@ fn check_build_id<'b>(
     match require_build_id(bytes, id) {
         Ok(bytes) => Ok(Some((file, bytes))),
         Err(why) => Err((file, why)),
+    }
+}
+
+/// Returns a file if it has this build id.
+fn check_whole_build_id<'b>(
+    file: PathBuf,
+    bytes: &'b Bytes,
+    id: &[u8],
+) -> Result<Option<(PathBuf, &'b Bytes)>, (PathBuf, NotUsed)> {
+    match Program::read(bytes).map(|program| program.build_id().unwrap_or_default().to_vec()) {
+        Ok(own) if own == id => Ok(Some((file, bytes))),
+        Ok(own) => Err((file, NotUsed::BuildId(own, id.to_vec()))),
+        Err(error) => Err((file, NotUsed::Unreadable(error.to_string()))),
     }
 }
 

@@ -81,6 +81,14 @@ pub(crate) fn raw_name(symbol: &str) -> String {
     }
 }
 
+/// A symbol's name without the version that `.symtab` has in it, such as `@@GLIBC_2.34`.
+pub(crate) fn without_version(name: &str) -> &str {
+    match name.find('@') {
+        Some(at) if at > 0 && &name[at..] != STUB => &name[..at],
+        _ => name,
+    }
+}
+
 /// Whether the function that has the name `symbol` in the file is shown as `name`.
 pub(crate) fn is_shown_as(symbol: &str, name: &str) -> bool {
     shown_characters(&demangled(symbol)).eq(name.chars())

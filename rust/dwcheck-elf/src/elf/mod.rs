@@ -3,11 +3,13 @@
 //!
 //! It uses no other part.
 
+pub mod code_id;
 pub mod constants;
 pub mod covered;
 pub mod debug_files;
 pub mod demangle;
 pub mod escaped;
+pub mod fetch;
 pub mod format;
 pub mod function_offset;
 pub mod functions;

@@ -320,6 +320,13 @@ impl<'data> Program<'data> {
         self.file.segments().map(segment).collect()
     }
 
+    /// The address at which the beginning of the file is, if it is loaded where it is linked for.
+    pub fn image_address(&self) -> u64 {
+        let segments = self.segments();
+        let first = segments.iter().min_by_key(|segment| segment.address);
+        first.map_or(0, |first| self.target.wrap(first.address.wrapping_sub(first.offset)))
+    }
+
     /// The sections with code that are loaded, each with its name and its addresses. The executable segments, if
     /// the file has no such sections.
     pub fn code_sections(&self) -> Vec<(String, Range<u64>)> {

@@ -16,6 +16,7 @@ mod signal;
 
 pub(crate) use dump::Loaded;
 pub use dwcheck_minidump::Annotation;
+pub(crate) use files::open_regular_file;
 pub use files::{FileError, Files, MappedFile};
 pub use memory::{Block, Memory, Origin};
 pub use modules::{Image, Module};

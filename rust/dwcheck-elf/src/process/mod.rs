@@ -9,5 +9,6 @@ pub mod maps;
 pub mod modules;
 pub mod stack;
 pub mod state_file;
+pub mod symbol_store;
 mod used_stacks;
 pub mod without_row;

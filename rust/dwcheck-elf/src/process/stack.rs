@@ -14,6 +14,7 @@ mod listed;
 mod lost;
 mod overflow;
 mod per_file;
+mod symbols;
 mod tables;
 mod tail_calls;
 mod text;
@@ -31,6 +32,7 @@ pub use text::Lines;
 
 use crate::debug::variables::{Shape, Variables};
 use crate::process::core_file::{CoreFile, Files, Memory, Module, Thread};
+use crate::process::symbol_store::SymbolModule;
 use crate::process::without_row::Growth;
 use both_ends::Walked;
 use dwcheck::{Block, Registers};
@@ -69,6 +71,8 @@ pub struct Stacks<'a> {
     blocks: RefCell<Vec<Block<'a>>>,
     /// The modules that a minidump lists, and whose files aren't known.
     lost: Vec<Lost>,
+    /// The modules whose files aren't there, and whose symbol files are, by their addresses.
+    symbols: Vec<SymbolModule<'a>>,
     /// The files that can't be read.
     unread: Vec<(PathBuf, String)>,
     files: &'a Files,
@@ -233,6 +237,7 @@ impl<'a> Stacks<'a> {
             blocks: RefCell::new(std::iter::once(Block::new(0, &[])).chain(blocks).collect()),
             memory,
             lost: Lost::of(core, files),
+            symbols: Vec::new(),
             unread: unread.collect(),
             files,
             tables: RefCell::new(Tables::new(core.target(), core.modules(files))),
@@ -337,6 +342,9 @@ impl<'a> Stacks<'a> {
     pub fn position(&self, frame: &Frame) -> Position {
         let tables = self.tables.borrow();
         let looked_up = frame.looked_up();
+        if let Some(position) = self.symbol_position(frame.address, looked_up) {
+            return position;
+        }
         let found = tables.module_at(looked_up);
         let (place, module) = match found.and_then(|place| Some((place, tables.modules().get(place)?))) {
             Some(found) => found,

@@ -43,6 +43,8 @@ pub enum FoundBy {
     Context,
     /// By a row of an unwind table.
     Row,
+    /// By a row of a symbol file. Unlike those of unwind tables, these rows weren't checked.
+    SymbolRow,
     /// A guess: the frame that it called isn't at an executable address, so a call led there. On
     /// x86, the return address is at the stack pointer, and on aarch64 it is in x30. On x86 also: no row
     /// covers the frame that it called, and the word at the stack pointer follows a call, or that above what a
@@ -60,7 +62,7 @@ pub enum FoundBy {
 impl FoundBy {
     /// Whether the frame is a guess.
     pub fn is_guess(self) -> bool {
-        !matches!(self, FoundBy::Thread | FoundBy::Context | FoundBy::Row)
+        !matches!(self, FoundBy::Thread | FoundBy::Context | FoundBy::Row | FoundBy::SymbolRow)
     }
 }
 
@@ -70,6 +72,7 @@ impl fmt::Display for FoundBy {
             FoundBy::Thread => "thread",
             FoundBy::Context => "context",
             FoundBy::Row => "row",
+            FoundBy::SymbolRow => "symbol row",
             FoundBy::Call => "call",
             FoundBy::FramePointer => "frame pointer",
             FoundBy::SignalReturn => "signal return",

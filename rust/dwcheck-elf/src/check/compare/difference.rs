@@ -1,6 +1,6 @@
 //! What differs between two tables.
 
-use super::tables::TableRow;
+use crate::cfi::table_row::TableRow;
 use std::fmt;
 use std::ops::Range;
 

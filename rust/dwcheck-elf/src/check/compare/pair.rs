@@ -3,8 +3,9 @@
 use super::cfa::{is_for_one_address, Values};
 use super::difference::{Difference, Kind, Place, Support};
 use super::rules::{compared, Found, Speech};
-use super::tables::{Covered, Table, TableName, TableRow};
 use crate::cfi::sframe::Abi;
+use crate::cfi::table::{Covered, Table, TableName};
+use crate::cfi::table_row::TableRow;
 use crate::elf::format::Name;
 use std::collections::BTreeMap;
 use std::fmt;
@@ -24,12 +25,14 @@ pub enum NotSaid {
     Expression,
     /// One table has no rule for it, so that the ABI decides.
     Unspecified,
-    /// SFrame speaks of no register but the frame pointer.
+    /// SFrame speaks of no register but the frame pointer, and a symbol file of no others than general ones.
     Registers,
     /// SFrame can't say that the frame pointer is lost.
     Undefined,
-    /// Versions 1 and 2 of SFrame, and `.debug_frame`, can't say that a frame is a signal frame.
+    /// Versions 1 and 2 of SFrame, `.debug_frame` and symbol files can't say that a frame is a signal frame.
     SignalFrame,
+    /// A symbol file can't say that the return address is signed.
+    Signed,
     /// The return address has another register.
     ReturnRegister,
     /// There are too many addresses at which an expression has another value at each.
@@ -61,8 +64,9 @@ impl Pair {
             table.covered.iter().map(|one| one.range.end - one.range.start).fold(0, u64::saturating_add)
         };
         let sizes = [size(first), size(second)];
-        let speech = match second.name.section {
-            Name::Sframe => Speech::Frame(frame_pointer(first, second)),
+        let speech = match (second.name, second.of_general_registers()) {
+            (TableName::Section(Name::Sframe), _) => Speech::Frame(frame_pointer(first, second)),
+            (_, Some(architecture)) => Speech::General(architecture),
             _ => Speech::All,
         };
         let pair = Pair {
@@ -223,6 +227,7 @@ impl fmt::Display for NotSaid {
             NotSaid::Registers => "registers",
             NotSaid::Undefined => "undefined",
             NotSaid::SignalFrame => "signal-frame",
+            NotSaid::Signed => "signed",
             NotSaid::ReturnRegister => "return-register",
             NotSaid::Single => "too-many",
         })

@@ -3,8 +3,9 @@
 use super::cfa::{self, Alike, Values};
 use super::difference::Kind;
 use super::pair::NotSaid;
-use super::tables::TableRow;
 use crate::cfi::row::Rule;
+use crate::cfi::table_row::TableRow;
+use dwcheck_symbols::Architecture;
 
 /// What is compared: which registers the second table can speak of.
 #[derive(Clone, Copy)]
@@ -13,6 +14,8 @@ pub(super) enum Speech {
     All,
     /// Of the return address and this register only, as SFrame does.
     Frame(u16),
+    /// Of the general registers of a machine only, and not of signed return addresses, as symbol files do.
+    General(Architecture),
 }
 
 /// What comparing two rows has found.
@@ -63,10 +66,21 @@ pub(super) fn compared(rows: [&TableRow; 2], address: u64, speech: Speech, value
         false => found.not_said.push(NotSaid::ReturnRegister),
     }
     if first.is_signed != second.is_signed && found.different.is_none() && !second.is_outermost {
-        found.different = Some((Kind::Signing, Vec::new()));
+        match speech {
+            Speech::General(_) => found.not_said.push(NotSaid::Signed),
+            _ => found.different = Some((Kind::Signing, Vec::new())),
+        }
     }
     match speech {
-        Speech::All => all_registers(first, second, &mut found),
+        Speech::All => all_registers(first, second, &|_| true, &mut found),
+        Speech::General(architecture) => {
+            let is_general = |register| architecture.register_name(register).is_some();
+            all_registers(first, second, &is_general, &mut found);
+            if first.row.rules.iter().any(|(register, _)| *register != first.return_register && !is_general(*register))
+            {
+                found.not_said.push(NotSaid::Registers);
+            }
+        }
         Speech::Frame(_) if second.is_outermost => {}
         Speech::Frame(pointer) => {
             found.add(frame_pointer(first.rule(pointer), second.rule(pointer)), Kind::Register, pointer);
@@ -112,14 +126,14 @@ fn frame_pointer(first: Option<&Rule<'_>>, second: Option<&Rule<'_>>) -> Answer 
     }
 }
 
-/// Compares all rules but those of the return address. Both lists are ascending.
-fn all_registers(first: &TableRow, second: &TableRow, found: &mut Found) {
+/// Compares the rules of these registers but those of the return address. Both lists are ascending.
+fn all_registers(first: &TableRow, second: &TableRow, is_compared: &dyn Fn(u16) -> bool, found: &mut Found) {
     if first.row.rules == second.row.rules {
         return;
     }
     let mut others = second.row.rules.iter().peekable();
     let mut add = |register, one, other| {
-        if register != first.return_register {
+        if register != first.return_register && is_compared(register) {
             found.add(register_rule(one, other), Kind::Register, register);
         }
     };

@@ -2,8 +2,8 @@
 
 use super::difference::{Difference, Kind, Place, Support};
 use super::pair::Pair;
-use super::tables::TableRow;
 use crate::cfi::row::{Cfa, Rule};
+use crate::cfi::table_row::TableRow;
 use crate::check::lint::Sections;
 use crate::elf::functions::Functions;
 use crate::elf::program::Program;

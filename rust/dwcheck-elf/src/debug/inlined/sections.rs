@@ -7,7 +7,7 @@ use rayon::prelude::*;
 use std::borrow::Cow;
 use std::sync::Arc;
 
-/// The sections. Those with lines aren't among them.
+/// The sections. The one with lines isn't among them.
 const NEEDED: [SectionId; 8] = [
     SectionId::DebugInfo,
     SectionId::DebugAbbrev,
@@ -28,8 +28,17 @@ pub(super) struct Sections<'a> {
 impl<'a> Sections<'a> {
     /// Reads the sections, several at once. Of `.debug_info` only the part before `end` is needed.
     pub fn read(program: &Program<'a>, end: Option<usize>) -> Sections<'a> {
+        Sections::read_all(program, NEEDED.to_vec(), end)
+    }
+
+    /// Reads the sections, with that of the lines.
+    pub fn read_with_lines(program: &Program<'a>) -> Sections<'a> {
+        Sections::read_all(program, [&NEEDED[..], &[SectionId::DebugLine]].concat(), None)
+    }
+
+    fn read_all(program: &Program<'a>, needed: Vec<SectionId>, end: Option<usize>) -> Sections<'a> {
         let read = |id: SectionId| (id, section_before(program, id, end.filter(|_| id == SectionId::DebugInfo)));
-        let bytes = NEEDED.into_par_iter().with_max_len(1).map(read).collect();
+        let bytes = needed.into_par_iter().with_max_len(1).map(read).collect();
         Sections { order: program.target().gimli_order(), bytes }
     }
 

@@ -58,7 +58,7 @@ fn unit_attributes<'s>(unit: &Unit<Slice<'s>>) -> Result<Vec<Attribute<Slice<'s>
 
 /// What an entry of a function says.
 #[derive(Default)]
-struct Said<'s> {
+pub(super) struct Said<'s> {
     low: Option<Value<'s>>,
     high: Option<Value<'s>>,
     ranges: Option<Value<'s>>,
@@ -66,10 +66,12 @@ struct Said<'s> {
     names: [Option<Value<'s>>; 2],
     /// The entry that this one completes or is an instance of.
     origin: Option<Value<'s>>,
+    /// The line and the file of the call of an inlined function.
+    pub call: [Option<Value<'s>>; 2],
 }
 
 impl<'s> Said<'s> {
-    fn read(entries: &mut EntriesRaw<'_, '_, Slice<'s>>, abbreviation: &Abbreviation) -> Result<Said<'s>, Error> {
+    pub fn read(entries: &mut EntriesRaw<'_, '_, Slice<'s>>, abbreviation: &Abbreviation) -> Result<Said<'s>, Error> {
         let mut said = Said::default();
         for attribute in abbreviation.attributes() {
             let attribute = entries.read_attribute(*attribute)?;
@@ -80,6 +82,8 @@ impl<'s> Said<'s> {
                 gimli::DW_AT_linkage_name | gimli::DW_AT_MIPS_linkage_name => &mut said.names[0],
                 gimli::DW_AT_name => &mut said.names[1],
                 gimli::DW_AT_abstract_origin | gimli::DW_AT_specification => &mut said.origin,
+                gimli::DW_AT_call_line => &mut said.call[0],
+                gimli::DW_AT_call_file => &mut said.call[1],
                 _ => continue,
             };
             *place = Some(attribute.value());
@@ -88,7 +92,7 @@ impl<'s> Said<'s> {
     }
 
     /// The addresses of the function, by ranges that ascend and share no address.
-    fn addresses(&self, dwarf: &Dwarf<Slice<'s>>, unit: &Unit<Slice<'s>>) -> Result<Vec<Range<u64>>, Error> {
+    pub fn addresses(&self, dwarf: &Dwarf<Slice<'s>>, unit: &Unit<Slice<'s>>) -> Result<Vec<Range<u64>>, Error> {
         if let Some(ranges) = self.ranges {
             let mut ranges = match dwarf.attr_ranges(unit, ranges)? {
                 Some(ranges) => ranges,
@@ -128,10 +132,10 @@ fn ascending_ranges(mut ranges: Vec<Range<u64>>) -> Vec<Range<u64>> {
 
 /// An entry, in one of the two files.
 #[derive(Clone)]
-struct Place<'s> {
-    is_shared: bool,
-    unit: Rc<Unit<Slice<'s>>>,
-    offset: UnitOffset,
+pub(super) struct Place<'s> {
+    pub is_shared: bool,
+    pub unit: Rc<Unit<Slice<'s>>>,
+    pub offset: UnitOffset,
 }
 
 /// Reads the functions of a unit.
@@ -195,7 +199,7 @@ impl<'r, 's> Reader<'r, 's> {
         let place = Place { is_shared: false, unit: Rc::clone(unit), offset };
         let mut found = vec![vec![self.name(place.clone())]; addresses.len()];
         let mut entries = unit.entries_raw(Some(offset))?;
-        let mut levels = Levels { function: entries.next_depth(), inlined: Vec::new(), other: None };
+        let mut levels = Levels::in_function(entries.next_depth());
         let function = entries.read_abbreviation()?.ok_or(Error::NoEntryAtGivenOffset)?;
         entries.skip_attributes(function.attributes())?;
         while !entries.is_empty() && entries.next_depth() > levels.function {
@@ -238,6 +242,11 @@ impl<'r, 's> Reader<'r, 's> {
         Ok(unit)
     }
 
+    /// The units of the file that has the functions.
+    pub fn own_info(&self) -> &'r Info<'s> {
+        &self.search.info
+    }
+
     fn info(&self, is_shared: bool) -> Option<&'r Info<'s>> {
         let search = self.search;
         if is_shared {
@@ -248,7 +257,7 @@ impl<'r, 's> Reader<'r, 's> {
     }
 
     /// The name of a function, which may be that of another entry.
-    fn name(&mut self, mut place: Place<'s>) -> Option<String> {
+    pub fn name(&mut self, mut place: Place<'s>) -> Option<String> {
         for _ in 0..=MOST_REFERENCES {
             let mut entries = place.unit.entries_raw(Some(place.offset)).ok()?;
             let abbreviation = entries.read_abbreviation().ok()??;
@@ -283,9 +292,9 @@ impl<'r, 's> Reader<'r, 's> {
 }
 
 /// How deep entries are in those of a function.
-struct Levels {
+pub(super) struct Levels {
     /// The depth of the function's entry.
-    function: isize,
+    pub function: isize,
     /// The depths of the inlined functions around an entry.
     inlined: Vec<isize>,
     /// The depth of another function that is defined in this one.
@@ -293,8 +302,13 @@ struct Levels {
 }
 
 impl Levels {
+    /// Those of a function whose entry is this deep.
+    pub fn in_function(function: isize) -> Levels {
+        Levels { function, inlined: Vec::new(), other: None }
+    }
+
     /// In how many functions an entry is, if it is that of an inlined function. `None` if it isn't.
-    fn of_inlined(&mut self, depth: isize, tag: gimli::DwTag) -> Option<usize> {
+    pub fn of_inlined(&mut self, depth: isize, tag: gimli::DwTag) -> Option<usize> {
         self.other = self.other.filter(|other| depth > *other);
         if self.other.is_some() {
             return None;

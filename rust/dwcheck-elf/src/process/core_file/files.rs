@@ -100,8 +100,8 @@ impl Files {
             let path = Path::new(OsStr::from_bytes(mapping.path));
             path_below_root(&search.root, path).and_then(|path| open_regular_file(&path))
         });
-        if !search.folders.is_empty() {
-            files.debug_files = DebugFiles::with_folders(&search.root, &search.folders);
+        if !search.folders.is_empty() || search.fetcher.is_on() {
+            files.debug_files = debug_files_of(search);
             files.look_in(core, search);
         }
         files
@@ -109,7 +109,7 @@ impl Files {
 
     /// Opens the files of the modules of a minidump.
     fn of_modules(core: &CoreFile<'_>, modules: &[Loaded<'_>], search: &Search) -> Self {
-        let debug_files = DebugFiles::with_folders(&search.root, &search.folders);
+        let debug_files = debug_files_of(search);
         let mut files = Files { debug_files, ..Files::default() };
         let finder = Finder::new(search);
         let mut known = HashMap::new();
@@ -120,13 +120,14 @@ impl Files {
             if place < files.files.len() {
                 continue;
             }
-            let wanted = Wanted { name: &module.name, build_id: module.build_id, target: core.target() };
-            let found = if module.is_vdso() { find_vdso(&wanted, &finder) } else { finder.find(&wanted) };
+            let is_vdso = module.is_vdso();
+            let wanted = Wanted { name: &module.name, build_id: module.build_id, target: core.target(), is_vdso };
+            let found = if is_vdso { find_vdso(&wanted, &finder) } else { finder.find(&wanted) };
             let own = path_below_root(&search.root, &module.name).ok();
             let elsewhere = found.as_ref().ok().map(|(path, _)| path).filter(|path| Some(*path) != own.as_ref());
             let path = elsewhere.unwrap_or(&module.name).clone();
             let bytes = found.map(|(_, bytes)| bytes);
-            files.files.push(MappedFile { path, bytes, image: None, build_id: id, is_vdso: module.is_vdso() });
+            files.files.push(MappedFile { path, bytes, image: None, build_id: id, is_vdso });
         }
         files
     }
@@ -137,7 +138,7 @@ impl Files {
         for file in self.files.iter_mut().filter(|file| file.bytes.is_err()) {
             let id = file.build_id.clone();
             let build_id = id.as_deref().map(BuildId::Whole);
-            let wanted = Wanted { name: &file.path, build_id, target: core.target() };
+            let wanted = Wanted { name: &file.path, build_id, target: core.target(), is_vdso: file.is_vdso };
             if let Some((_, bytes)) = wanted.build_id.and_then(|_| finder.find(&wanted).ok()) {
                 (file.bytes, file.image) = (Ok(bytes), None);
             }
@@ -291,6 +292,11 @@ impl Files {
     }
 }
 
+/// Where files of debug information are looked for.
+fn debug_files_of(search: &Search) -> DebugFiles {
+    DebugFiles::with_folders(&search.root, &search.folders).fetching(&search.fetcher)
+}
+
 /// Where a file that a core names is on this machine: the absolute path `/a/b` is `a/b` in the
 /// folder `root`.
 fn path_below_root(root: &Path, path: &Path) -> Result<PathBuf, FileError> {
@@ -315,7 +321,7 @@ fn find_vdso(wanted: &Wanted<'_>, finder: &Finder<'_>) -> Result<(PathBuf, Bytes
 }
 
 /// Opens a regular file. Other files, such as devices and pipes, aren't opened.
-pub(super) fn open_regular_file(path: &Path) -> Result<Bytes, FileError> {
+pub(crate) fn open_regular_file(path: &Path) -> Result<Bytes, FileError> {
     if !path.metadata().map_err(FileError::Read)?.is_file() {
         return Err(FileError::NotRegular);
     }

@@ -100,10 +100,9 @@ impl CoreFile<'_> {
         let listed = self.listed().unwrap_or(&[]).iter().enumerate();
         let known = listed.filter_map(|(index, module)| {
             let (place, path, bytes) = files.module(index)?;
-            let segments = Program::read(bytes).ok()?.segments();
-            let first = segments.iter().min_by_key(|segment| segment.address)?;
-            let header = first.address.wrapping_sub(first.offset);
-            let bias = self.target().wrap(module.begin.wrapping_sub(header));
+            let program = Program::read(bytes).ok()?;
+            let segments = program.segments();
+            let bias = self.target().wrap(module.begin.wrapping_sub(program.image_address()));
             Some(Listed { place, path, bytes, bias, segments })
         });
         known.collect()

@@ -3,12 +3,13 @@
 use super::files::open_regular_file;
 use super::in_memory::build_id_in_bytes;
 use super::FileError;
+use crate::elf::code_id::build_id_of_code;
 use crate::elf::debug_files::build_id_hex;
+use crate::elf::fetch::Fetcher;
 use crate::elf::mapped::Bytes;
 use crate::elf::program::Program;
 use dwcheck_minidump::BuildId;
 use dwcheck_types::target::Target;
-use object::read::{Object, ObjectSection};
 use once_cell::unsync::OnceCell;
 use std::collections::HashMap;
 use std::ffi::{OsStr, OsString};
@@ -47,12 +48,14 @@ pub struct Search {
     /// Folders with files of the process, which count before `root`: each file there and in the folders below, by its
     /// name or its build id.
     pub folders: Vec<PathBuf>,
+    /// What fetches files that aren't in a folder, by their build ids.
+    pub fetcher: Fetcher,
 }
 
 impl Search {
     /// Looks in the folder `root`, which stands for `/`, and nowhere else.
     pub fn new(root: &Path) -> Self {
-        Search { root: root.to_path_buf(), folders: Vec::new() }
+        Search { root: root.to_path_buf(), folders: Vec::new(), fetcher: Fetcher::default() }
     }
 }
 
@@ -64,6 +67,8 @@ pub(super) struct Wanted<'w> {
     pub build_id: Option<BuildId<'w>>,
     /// Its byte order and address size.
     pub target: Target,
+    /// Whether it is the kernel's, which no server is asked for.
+    pub is_vdso: bool,
 }
 
 /// Looks for files in folders, which are read when they are first needed.
@@ -105,6 +110,7 @@ impl<'s> Finder<'s> {
         let given = self.given(wanted).into_iter().find_map(&mut fits);
         let in_tree = || self.in_tree(wanted).into_iter().find_map(&mut fits);
         let found = given.or_else(in_tree).or_else(|| self.installed(wanted).into_iter().find_map(&mut fits));
+        let found = found.or_else(|| self.fetched(wanted).and_then(&mut fits));
         found.ok_or_else(|| match (other, unread, wanted.build_id) {
             (Some((path, found)), _, Some(id)) => {
                 FileError::OtherBuild(path, found.map(|id| build_id_hex(&id)), build_id_hex(id.bytes()))
@@ -154,6 +160,16 @@ impl<'s> Finder<'s> {
     }
 }
 
+impl Finder<'_> {
+    /// The file that a server has for the build id.
+    fn fetched(&self, wanted: &Wanted<'_>) -> Option<PathBuf> {
+        match wanted.build_id {
+            Some(BuildId::Whole(id)) if !wanted.is_vdso => self.search.fetcher.executable(id),
+            _ => None,
+        }
+    }
+}
+
 /// Keeps the first error of a file that is there but can't be read.
 fn keep_first_unread(first: &mut Option<FileError>, error: FileError) {
     let is_there = matches!(&error, FileError::Read(why) if why.kind() != io::ErrorKind::NotFound);
@@ -188,21 +204,6 @@ impl Wanted<'_> {
         let (first, rest) = (digits.get(..2)?, digits.get(2..).filter(|rest| !rest.is_empty())?);
         Some(Path::new(first).join(rest))
     }
-}
-
-/// The id that Breakpad gives to a file without a build id (`HashElfTextSection` of its `file_id.cc`): the beginning of
-/// `.text`, of which each 16 bytes are taken together by exclusive or. The last 16 may reach past the section.
-fn build_id_of_code(bytes: &[u8]) -> Option<[u8; 16]> {
-    const TAKEN: u64 = 4096;
-    let mut id = [0; 16];
-    let file = object::File::parse(bytes).ok()?;
-    let (begin, size) = file.section_by_name(".text")?.file_range()?;
-    let code = bytes.get(usize::try_from(begin).ok()?..)?;
-    let taken = (size.min(TAKEN) as usize + id.len() - 1) / id.len() * id.len();
-    for part in code.get(..taken).unwrap_or(code).chunks(id.len()) {
-        id.iter_mut().zip(part).for_each(|(byte, one)| *byte ^= one);
-    }
-    Some(id)
 }
 
 impl Tree {

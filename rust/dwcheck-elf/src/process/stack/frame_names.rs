@@ -4,7 +4,7 @@ use crate::debug::inlined;
 use crate::debug::lines::{At, Lines, SourceLine};
 use crate::debug::variables::Called;
 use crate::elf::debug_files::{build_id_hex, DebugFiles};
-use crate::elf::demangle::{raw_name, shown_name, STUB};
+use crate::elf::demangle::{raw_name, shown_name, without_version, STUB};
 use crate::elf::function_offset::FunctionOffset;
 use crate::elf::functions::Functions;
 use crate::elf::program::Program;
@@ -275,12 +275,4 @@ impl<'a> Names<'a> {
 fn name_without_suffixes(name: &str) -> &str {
     let ends = PARTS.iter().filter_map(|part| name.find(part)).filter(|end| *end > 0);
     ends.min().map_or(name, |end| &name[..end])
-}
-
-/// A symbol's name without the version that `.symtab` has in it, such as `@@GLIBC_2.34`.
-fn without_version(name: &str) -> &str {
-    match name.find('@') {
-        Some(at) if at > 0 && &name[at..] != STUB => &name[..at],
-        _ => name,
-    }
 }

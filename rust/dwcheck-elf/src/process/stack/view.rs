@@ -42,10 +42,11 @@ impl View for Stacks<'_> {
     }
 
     fn file_at(&self, address: u64) -> Option<usize> {
-        self.tables.borrow().module_at(address)
+        let with_symbols = || self.symbol_module_at(address).map(|place| usize::MAX - place);
+        self.tables.borrow().module_at(address).or_else(with_symbols)
     }
 
     fn has_row(&self, address: u64) -> Result<bool, Error> {
-        self.tables.borrow_mut().covers(address)
+        Ok(self.tables.borrow_mut().covers(address)? || self.has_symbol_row(address))
     }
 }

@@ -1,6 +1,7 @@
 //! Walks up the stack of a thread.
 
 use super::both_ends::{BothEnds, Walked};
+use super::symbols::SymbolCaller;
 use super::tables::Found;
 use super::{Frame, Stacks, Stop, WalkOptions};
 use crate::process::without_row::{FoundBy, Growth, Guess, Guesser, NotGrowing, View};
@@ -73,6 +74,9 @@ impl Walker<'_, '_> {
         if let Some(found) = found {
             return Ok(self.by_row(frame, found));
         }
+        if let Some(found) = self.stacks.symbol_caller(frame, registers) {
+            return Ok(self.by_symbol_row(frame, found));
+        }
         // Some code, such as Go's, puts the first address of a function where a return address is, as if the function
         // had been called and had done nothing yet.
         if frame.is_after_call && !guesser.may_follow_call(frame.address) {
@@ -116,6 +120,26 @@ impl Walker<'_, '_> {
         }
         let next = Frame { is_after_call: !is_signal_frame, ..Frame::caller(address, FoundBy::Row) };
         Caller::Frame(next, known)
+    }
+
+    fn by_symbol_row(&mut self, frame: &mut Frame, found: SymbolCaller) -> Caller {
+        let SymbolCaller { cfa, return_address, registers, is_signal_frame } = found;
+        frame.cfa = cfa;
+        frame.is_signal_frame = is_signal_frame;
+        frame.is_after_call &= !is_signal_frame;
+        if let Some(stop) = self.stop_at(frame) {
+            return Caller::None(stop);
+        }
+        let address = match return_address {
+            Some(0) => return Caller::None(Stop::ReturnUndefined),
+            Some(address) => address & !self.signed_bits,
+            None => return Caller::None(Stop::ReturnUnreadable),
+        };
+        if !is_signal_frame && !self.stacks.is_in_code(address) {
+            return Caller::None(Stop::NotExecutable(address));
+        }
+        let next = Frame { is_after_call: !is_signal_frame, ..Frame::caller(address, FoundBy::SymbolRow) };
+        Caller::Frame(next, registers)
     }
 
     fn by_guess(&mut self, frame: &mut Frame, guess: Option<Guess>) -> Caller {

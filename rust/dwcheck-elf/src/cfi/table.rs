@@ -1,45 +1,37 @@
-//! The tables that are compared, and their rows.
+//! The tables with rows of a program, whatever their format, and their rows.
 
 use crate::cfi::frames::{Frames, Kind};
 use crate::cfi::row::{Cfa, Row, Rule};
 use crate::cfi::sframe::{Sframe, SframeRow};
+use crate::cfi::stack_cfi::row_of_symbols;
+use crate::cfi::table_row::TableRow;
 use crate::elf::format::Name;
 use dwcheck::{CfaRule, Process, Rows};
+use dwcheck_symbols::{Architecture, SymbolFile};
 use std::borrow::Cow;
 use std::fmt;
 use std::ops::Range;
 
 /// Which table it is.
 #[derive(Clone, Copy, Debug, PartialEq, Eq)]
-pub struct TableName {
-    /// The section.
-    pub section: Name,
-    /// Whether it is in the separate file of debug information.
-    pub is_separate: bool,
-}
-
-/// A row, with what else tables say of its addresses.
-#[derive(Clone, Debug, Default, PartialEq, Eq)]
-pub struct TableRow {
-    /// The row, with the bytes of its expressions.
-    pub row: Row<'static>,
-    /// The DWARF number of the register of the return address.
-    pub return_register: u16,
-    /// Whether SFrame says that the frame is the outermost one. The row has no CFA then.
-    pub is_outermost: bool,
-    /// Whether the return address is signed (aarch64).
-    pub is_signed: bool,
+pub enum TableName {
+    /// A section of the program.
+    Section(Name),
+    /// A section of its separate file of debug information.
+    Separate(Name),
+    /// The rows of a symbol file of Breakpad's.
+    SymbolFile,
 }
 
 /// A range of addresses that a table covers as one.
 #[derive(Clone, Debug)]
-pub(super) struct Covered {
+pub(crate) struct Covered {
     pub range: Range<u64>,
     pub is_signal_frame: bool,
 }
 
 /// A table, and its rows, which are looked up with ascending addresses.
-pub(super) struct Table<'a> {
+pub(crate) struct Table<'a> {
     pub name: TableName,
     /// Whether it can say that frames are signal frames.
     pub has_signal_frames: bool,
@@ -52,8 +44,23 @@ pub(super) struct Table<'a> {
 }
 
 enum Source<'a> {
-    Frames { process: &'a Process, rows: Rows<'a> },
-    Sframe { sframe: &'a Sframe<'a>, function: Range<u64>, rows: Vec<SframeRow> },
+    Frames {
+        process: &'a Process,
+        rows: Rows<'a>,
+    },
+    Sframe {
+        sframe: &'a Sframe<'a>,
+        function: Range<u64>,
+        rows: Vec<SframeRow>,
+    },
+    /// `image` is the address to which those of the symbol file are relative, and `rows` are those of the frame that was
+    /// looked up last.
+    Symbols {
+        symbols: &'a SymbolFile<'a>,
+        architecture: Architecture,
+        image: u64,
+        rows: Vec<dwcheck_symbols::Row<'a>>,
+    },
 }
 
 impl<'a> Table<'a> {
@@ -67,7 +74,7 @@ impl<'a> Table<'a> {
         let covered = covered.filter(|one| one.range.start != 0 || !is_linked);
         let mut signed = frames.signed();
         signed.sort_by_key(|range| range.start);
-        let name = TableName { section: frames.name(), is_separate };
+        let name = if is_separate { TableName::Separate(frames.name()) } else { TableName::Section(frames.name()) };
         let has_signal_frames = frames.name() == Name::EhFrame;
         Table::new(name, has_signal_frames, covered, signed, Source::Frames { process, rows: process.rows() })
     }
@@ -77,9 +84,25 @@ impl<'a> Table<'a> {
         let covered = sframe
             .by_address()
             .map(|function| Covered { range: function.addresses(), is_signal_frame: function.is_signal_frame });
-        let name = TableName { section: Name::Sframe, is_separate: false };
+        let name = TableName::Section(Name::Sframe);
         let source = Source::Sframe { sframe, function: 0..0, rows: Vec::new() };
         Table::new(name, sframe.has_signal_frames(), covered, Vec::new(), source)
+    }
+
+    /// The rows of a symbol file, whose addresses are relative to `image`.
+    pub fn of_symbols(symbols: &'a SymbolFile<'a>, architecture: Architecture, image: u64) -> Self {
+        let mut covered: Vec<_> = symbols.covered().collect();
+        covered.sort_by_key(|range| range.start);
+        let mut end = 0;
+        covered.retain(|range| {
+            let is_free = range.start >= end;
+            end = end.max(range.end);
+            is_free
+        });
+        let loaded = |range: Range<u64>| range.start.wrapping_add(image)..range.end.wrapping_add(image);
+        let covered = covered.into_iter().map(|range| Covered { range: loaded(range), is_signal_frame: false });
+        let source = Source::Symbols { symbols, architecture, image, rows: Vec::new() };
+        Table::new(TableName::SymbolFile, false, covered, Vec::new(), source)
     }
 
     fn new(
@@ -92,6 +115,14 @@ impl<'a> Table<'a> {
         let mut covered: Vec<_> = covered.filter(|one| !one.range.is_empty()).collect();
         covered.sort_by_key(|one| one.range.start);
         Table { name, has_signal_frames, covered, signed, source, row: TableRow::default() }
+    }
+
+    /// The machine of a symbol file, which speaks of its general registers alone.
+    pub fn of_general_registers(&self) -> Option<Architecture> {
+        match self.source {
+            Source::Symbols { architecture, .. } => Some(architecture),
+            _ => None,
+        }
     }
 
     /// Whether it covers nothing.
@@ -128,9 +159,37 @@ impl<'a> Table<'a> {
                 (*is_outermost, *is_signed) = (found.is_outermost, found.is_signed);
                 *row = found.row;
             }
+            Source::Symbols { symbols, architecture, image, rows } => {
+                self.row = symbol_row(symbols, *architecture, rows, address.wrapping_sub(*image))
+                    .map_err(|next| next.saturating_add(*image))?;
+                let Row { begin, end, .. } = &mut self.row.row;
+                (*begin, *end) = (begin.wrapping_add(*image), end.wrapping_add(*image));
+            }
         }
         Ok(())
     }
+}
+
+/// The row of a symbol file for an address that is relative to the beginning of the program. `rows` are those of the
+/// last frame that was looked up. Without one, where the next row may begin.
+fn symbol_row<'a>(
+    symbols: &'a SymbolFile<'a>,
+    architecture: Architecture,
+    rows: &mut Vec<dwcheck_symbols::Row<'a>>,
+    address: u64,
+) -> Result<TableRow, u64> {
+    let is_known = |rows: &[dwcheck_symbols::Row<'_>]| {
+        rows.first().map_or(false, |row| row.begin <= address) && rows.last().map_or(false, |row| address < row.end)
+    };
+    if !is_known(rows) {
+        *rows = symbols.rows_of_frame(address);
+    }
+    let before = rows.partition_point(|row| row.end <= address);
+    let found = rows.get(before).ok_or_else(|| symbols.end_of_frame(address).unwrap_or(u64::MAX))?;
+    if found.begin > address {
+        return Err(found.begin);
+    }
+    row_of_symbols(found, architecture).ok_or(found.end)
 }
 
 /// The row of an address in the rows of its function, or of the first one of its blocks. Without one, where the next
@@ -190,28 +249,22 @@ fn fill(row: &mut Row<'static>, process: &Process, found: &dwcheck::Row) -> Opti
     Some(())
 }
 
-impl TableRow {
-    /// The rule of a register.
-    pub(super) fn rule(&self, register: u16) -> Option<&Rule<'static>> {
-        self.row.rules.iter().find(|(other, _)| *other == register).map(|(_, rule)| rule)
+impl TableName {
+    /// The name of the section, without a space in it.
+    pub fn word(&self) -> String {
+        match self {
+            TableName::Section(section) | TableName::Separate(section) => section.to_string(),
+            TableName::SymbolFile => "symbols".to_string(),
+        }
     }
 }
 
 impl fmt::Display for TableName {
     fn fmt(&self, f: &mut fmt::Formatter<'_>) -> fmt::Result {
-        let place = if self.is_separate { " of the separate file" } else { "" };
-        write!(f, "{}{}", self.section, place)
-    }
-}
-
-/// The rules without the addresses, in the words of `rows`.
-impl fmt::Display for TableRow {
-    fn fmt(&self, f: &mut fmt::Formatter<'_>) -> fmt::Result {
-        match self.is_outermost {
-            true => f.write_str("cfa=u")?,
-            false => write!(f, "cfa={}", self.row.cfa)?,
+        match self {
+            TableName::Section(section) => write!(f, "{}", section),
+            TableName::Separate(section) => write!(f, "{} of the separate file", section),
+            TableName::SymbolFile => f.write_str("the symbol file"),
         }
-        self.row.rules.iter().try_for_each(|(register, rule)| write!(f, " r{}={}", register, rule))?;
-        f.write_str(if self.is_signed { " signed" } else { "" })
     }
 }

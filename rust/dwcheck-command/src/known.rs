@@ -6,6 +6,9 @@ use dwcheck_lint::finding::Severity;
 use std::collections::HashMap;
 use std::path::Path;
 
+/// How a function without a name is shown.
+pub const NAMELESS: &str = "a function without a name";
+
 /// What a finding is known by: its kind, and its function or its address.
 #[derive(Clone, Debug, PartialEq, Eq, Hash)]
 pub struct Key {
@@ -79,7 +82,7 @@ fn parse_finding_line(line: &str, kinds: &[&str]) -> Option<(String, Key)> {
 /// The name without its offset, or the place if there is no name.
 fn function_of_finding(name: &str, place: &str) -> String {
     match name {
-        super::linted::NAMELESS => place.to_string(),
+        NAMELESS => place.to_string(),
         name => name.rsplit_once("+0x").map_or(name, |(name, _)| name).to_string(),
     }
 }
