@@ -45,6 +45,7 @@ _Record = _structure("_Record", next=_u64, program=_u64, cie=_u64, start=_u64, e
                      data_alignment_factor=_i64, kind=_u32, version=_u32, return_reg=_u32, is_signal_frame=_u32)
 _Rule = _structure("_Rule", offset=_i64, length=_u64, reg=_u16, source=_u16, kind=_u32)
 _Row = _structure("_Row", id=_u64, cookie=_u64, load_address=_u64, start=_u64, end=_u64, cfa=_Rule, return_reg=_u32, count=_u32)
+_Header = _structure("_Header", bytes=c.c_char_p, length=_size, address=_u64)
 _Block = _structure("_Block", base=_u64, bytes=c.c_char_p, length=_size)
 _State = _structure("_State", contents=c.POINTER(_u64), contents_length=_size, known=c.c_char_p, known_length=_size,
                     blocks=c.POINTER(_Block), blocks_length=_size, kept=c.POINTER(_u16), kept_length=_size, stack_pointer=_u16,
@@ -158,6 +159,7 @@ class Section:
 
     def __init__(self, section: bytes, eh_frame: Optional[int] = None, is_aarch64=False, order=LITTLE, address_size=8):
         self._module = _module(section, 0, eh_frame, is_aarch64, order, address_size, None, 0)
+        self._section = section
 
     def check(self) -> Contents:
         """Checks the section, and counts what it contains."""
@@ -177,6 +179,18 @@ class Section:
             yield Record(offset, record.next, kind, record.program, record.cie, record.start, record.end, record.return_reg,
                          bool(record.is_signal_frame))
             offset = record.next
+
+    def row(self, address: int, header: bytes, header_address: int) -> "Optional[Row]":
+        """The row of an address as linked, or None, by the search table of an .eh_frame_hdr section, which is at
+        `header_address` as linked. Only the FDE to which the table leads and its CIE are read."""
+        table = _Header(bytes=header, length=len(header), address=header_address)
+        row, rules, is_signal_frame, fault = _Row(), (_Rule * 128)(), _u32(), _Fault()
+        status = _library.dwcheck_row_in(c.byref(self._module), c.byref(table), _u64(address), c.byref(row), rules, _size(128),
+                                         c.byref(is_signal_frame), c.byref(fault))
+        if status == _NONE:
+            return None
+        _check(status, fault)
+        return _row_of(row, rules, lambda _, rule: self._section[rule.offset : rule.offset + rule.length])
 
 
 # ---- rows
@@ -207,6 +221,18 @@ class Row:
     module: int
     cookie: int
     load_address: int
+
+
+def _row_of(row, rules, expression):
+    def rule_of(number, rule, register):
+        kind = _KINDS[rule.kind] if rule.kind < len(_KINDS) else "?"
+        if kind.endswith("expression"):
+            return Rule(kind, expression=expression(number, rule))
+        return Rule(kind, register, rule.offset)
+
+    by_register = {rule.reg: rule_of(rule.reg, rule, rule.source) for rule in rules[: row.count]}
+    cfa = rule_of(0x10000, row.cfa, row.cfa.reg)
+    return Row(row.start, row.end, cfa, by_register, row.return_reg, row.id, row.cookie, row.load_address)
 
 
 # ---- stacks
@@ -280,17 +306,12 @@ class Process:
         with self._lock:
             if _library.dwcheck_row_at(c.byref(self._handle), _u64(address), c.byref(row), rules, _size(128)) != _DONE:
                 return None
-            by_register = {rule.reg: self._rule(address, rule.reg, rule, rule.source) for rule in rules[: row.count]}
-            cfa = self._rule(address, 0x10000, row.cfa, row.cfa.reg)
-        return Row(row.start, row.end, cfa, by_register, row.return_reg, row.id, row.cookie, row.load_address)
+            return _row_of(row, rules, lambda number, rule: self._expression(address, number, rule))
 
-    def _rule(self, address, number, rule, register):
-        kind = _KINDS[rule.kind] if rule.kind < len(_KINDS) else "?"
-        if not kind.endswith("expression"):
-            return Rule(kind, register, rule.offset)
+    def _expression(self, address, number, rule):
         text, size = c.create_string_buffer(max(rule.length, 1)), _size()
         _library.dwcheck_rule_bytes(c.byref(self._handle), _u64(address), number, text, _size(rule.length), c.byref(size))
-        return Rule(kind, expression=text.raw[: size.value])
+        return text.raw[: size.value]
 
     def walk(self, address: int, registers: Dict[int, int], read: Callable[[int, int], Optional[bytes]], abi: Abi = X86_64,
              limit: int = 256, exact: bool = True) -> Walk:

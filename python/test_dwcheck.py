@@ -71,6 +71,23 @@ class Rows(unittest.TestCase):
                     compared += self.compare(ours, theirs)
             self.assertGreater(compared, 1000)
 
+    def test_rows_of_ls_in_place_are_those_of_a_process(self):
+        with open("/bin/ls", "rb") as file, dwcheck.Process() as process:
+            elf = ELFFile(file)
+            frame, header = (elf.get_section_by_name(name) for name in (".eh_frame", ".eh_frame_hdr"))
+            process.add(frame.data(), eh_frame=frame["sh_addr"])
+            section = dwcheck.Section(frame.data(), eh_frame=frame["sh_addr"])
+            table = (header.data(), header["sh_addr"])
+            starts = [record.start for record in section if record.kind == "fde"]
+            self.assertGreater(len(starts), 100)
+            for address in starts + [start - 1 for start in starts]:
+                added, found = process.row(address), section.row(address, *table)
+                if added is not None:
+                    added.module = 0
+                self.assertEqual(found, added)
+            with self.assertRaises(dwcheck.Error):
+                section.row(starts[0], table[0][:-1], table[1])
+
     def compare(self, ours, theirs):
         cfa = theirs["cfa"]
         if cfa.expr is None:

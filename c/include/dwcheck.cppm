@@ -13,8 +13,8 @@ export module dwcheck;
 export using ::dwcheck_fault, ::dwcheck_counts, ::dwcheck_expression, ::dwcheck_process,
     ::dwcheck_module, ::dwcheck_loaded, ::dwcheck_record, ::dwcheck_rule, ::dwcheck_row,
     ::dwcheck_block, ::dwcheck_state, ::dwcheck_answer, ::dwcheck_register, ::dwcheck_caller,
-    ::dwcheck_frame, ::dwcheck_cache, ::dwcheck_cursor, ::dwcheck_reader, ::dwcheck_context, ::dwcheck_value,
-    ::dwcheck_piece, ::dwcheck_lookup, ::dwcheck_location;
+    ::dwcheck_frame, ::dwcheck_cache, ::dwcheck_cursor, ::dwcheck_reader, ::dwcheck_header, ::dwcheck_context,
+    ::dwcheck_value, ::dwcheck_piece, ::dwcheck_lookup, ::dwcheck_location;
 
 // Calls.
 export using ::dwcheck_version, ::dwcheck_fault_name, ::dwcheck_fault_text, ::dwcheck_status_text,
@@ -23,8 +23,8 @@ export using ::dwcheck_version, ::dwcheck_fault_name, ::dwcheck_fault_text, ::dw
     ::dwcheck_module_check, ::dwcheck_record_at, ::dwcheck_row_at, ::dwcheck_is_signal_frame,
     ::dwcheck_rule_bytes, ::dwcheck_unwind, ::dwcheck_backtrace,
     ::dwcheck_backtrace_cached, ::dwcheck_cursor_init,
-    ::dwcheck_cursor_step, ::dwcheck_cursor_step_with, ::dwcheck_evaluate, ::dwcheck_locations,
-    ::dwcheck_list_locations;
+    ::dwcheck_cursor_step, ::dwcheck_cursor_step_with, ::dwcheck_row_in, ::dwcheck_step_in, ::dwcheck_evaluate,
+    ::dwcheck_locations, ::dwcheck_list_locations;
 
 // Constants.
 export using ::DWCHECK_DONE, ::DWCHECK_REFUSED, ::DWCHECK_NO_MEMORY, ::DWCHECK_NO_ROOM,
@@ -55,6 +55,7 @@ using dwcheck::eh_module_of;
 using dwcheck::elements;
 using dwcheck::failure;
 using dwcheck::fault_name;
+using dwcheck::in_place;
 using dwcheck::module_of;
 using dwcheck::process;
 using dwcheck::result;

@@ -1,5 +1,5 @@
-// libdwcheck for C++17 and later: a process that closes itself, results in place of statuses, and the
-// frames of a stack as a range. All of it is inline and calls dwcheck.h, which says what each call
+// libdwcheck for C++17 and later: a process that closes itself, results in place of statuses, the frames
+// of a stack as a range, and look-ups in place. All of it is inline and calls dwcheck.h, which says what each call
 // returns, what it costs, and what the caller ensures. Nothing here throws or allocates.
 //
 //     dwcheck::process process;
@@ -252,6 +252,35 @@ public:
     }
     walk frames(std::uint64_t, const dwcheck_state &&, bool = true) const & = delete;
     walk frames(std::uint64_t, const dwcheck_state &, bool = true) const && = delete;
+};
+
+// An .eh_frame section where it lies, with its .eh_frame_hdr: rows and steps without a process. Both outlive it.
+class in_place {
+    dwcheck_module section;
+    dwcheck_header header;
+
+public:
+    in_place(const dwcheck_module &eh_frame, const dwcheck_header &eh_frame_hdr) noexcept : section(eh_frame), header(eh_frame_hdr) {}
+
+    // Writes the row that covers an address as loaded, and returns whether its frames are those of signals; or says
+    // why there is none (dwcheck_row_in).
+    result<bool> row_at(std::uint64_t address, row &found) const noexcept {
+        failure why;
+        std::uint32_t is_signal_frame = 0;
+        why.status = dwcheck_row_in(&section, &header, address, &found, found.room.data(), found.room.size(), &is_signal_frame,
+                                    &why.fault);
+        if (why.status == DWCHECK_DONE) return is_signal_frame != 0;
+        return why;
+    }
+
+    // The frame that a cursor is at, and moves the cursor to its caller (dwcheck_step_in).
+    result<dwcheck_frame> step(dwcheck_cursor &cursor, const dwcheck_state &state) const noexcept {
+        failure why;
+        dwcheck_frame frame = {};
+        why.status = dwcheck_step_in(&section, &header, &cursor, &state, &frame, &why.fault);
+        if (why.status == DWCHECK_DONE) return frame;
+        return why;
+    }
 };
 
 } // namespace dwcheck

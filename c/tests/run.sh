@@ -1,9 +1,10 @@
 #!/bin/bash
 # Builds the tests with the static library build/libdwcheck.a, or the one that LIBRARY names, and runs
 # them: those of readers.c, frozen.c, cursor.c, cache.c, dl.c, own_rows.c, both.c and changed.c; those of
-# wrapper.cc, as C++17, as C++20 and over the module; and those of cases.c while allocations fail in turn, with
-# sanitizers, and under valgrind. Before that, the headers are compiled as C11, C17 and C++17; passing a pointer
-# of a wrong type must be an error.
+# in_place.c, plainly, with sanitizers and under valgrind; those of wrapper.cc, as C++17, as C++20 and
+# over the module; and those of cases.c while allocations fail in turn, with sanitizers, and under
+# valgrind. Before that, the headers are compiled as C11, C17 and C++17; passing a pointer of a wrong
+# type must be an error.
 # Prints a line `ok NAME` or `FAILED NAME` for each, and ends with status 1 if one failed.
 set -u
 top=$(dirname "$(dirname "$(dirname "$(realpath "$0")")")")
@@ -40,6 +41,18 @@ cases() { # FLAG..: builds the tests and runs them
 
 readers() { # PROGRAM: builds the tests of calls that read one process at once, and runs them
     cc -std=gnu11 -D_GNU_SOURCE $strict -O2 -g "$top/c/tests/$1.c" "$library" -o "$out/$1" -pthread -ldl && "$out/$1"
+}
+
+build_in_place() { # FLAG..: builds the tests of look-ups in place, which count requests for memory
+    cc -std=gnu11 -D_GNU_SOURCE $strict -O2 -g "$@" "$top/c/tests/in_place.c" "$library" -Wl,--wrap=malloc,--wrap=realloc -o "$out/in_place"
+}
+
+in_place() { # FLAG..: builds these tests and runs them
+    build_in_place "$@" && "$out/in_place" "$(cc -print-file-name=libc.so.6)"
+}
+
+in_place_under_valgrind() {
+    build_in_place && valgrind -q --error-exitcode=1 "$out/in_place" "$(cc -print-file-name=libc.so.6)" 37
 }
 
 compile_module() { # OBJECT COMMAND..: compiles the module of LLVM as the kit does, and takes its code apart
@@ -175,6 +188,9 @@ test_of "calls that read one process at once" readers readers
 test_of "the same with the process in memory that can't be written" readers frozen
 test_of "steps of a cursor" readers cursor
 test_of "walks with a cache" readers cache
+test_of "look-ups in place" in_place
+test_of "the same with ASan and UBSan" in_place -fsanitize=address,undefined -fno-sanitize-recover=all
+test_of "the same under valgrind" in_place_under_valgrind
 test_of "stacks of dwcheck-dl are glibc's, while libraries come and go" dl
 test_of "rows are given to the code of a module, which stays the same" rows_of_modules
 test_of "a module without attributes is compiled" modules_without_attributes

@@ -99,6 +99,26 @@ static void check_rows(const dwcheck::process &process) {
     CHECK(process.unwind(LOAD, stopped.state, caller).why().status == DWCHECK_NONE);
 }
 
+// The section `eh`, and its .eh_frame_hdr at 0x3000, which leads to its FDE at 24.
+static void check_in_place(const std::uint8_t *eh, std::size_t length) {
+    const std::uint8_t table[] = {1, 0x1b, 3, 0x3b, 0xfc, 0xef, 0xff, 0xff, 1, 0, 0, 0, 9, 0xe0, 0xff, 0xff, 0x18, 0xf0, 0xff, 0xff};
+    dwcheck_header header = {table, sizeof table, 0x3000};
+    const dwcheck::in_place section(dwcheck::eh_module_of(eh, length, 0x2000, LOAD), header);
+    dwcheck::row row;
+    const auto found = section.row_at(LOAD + 0x100b, row);
+    CHECK(found && !*found && row.start == 0x1009 && row.end == 0x100c && row.rules()[0].reg == 16);
+    CHECK(section.row_at(LOAD + 0x100c, row).why().status == DWCHECK_NONE);
+    thread stopped(2);
+    dwcheck_cursor cursor = {};
+    dwcheck_fault fault;
+    CHECK(dwcheck_cursor_init(&cursor, LOAD + 0x1009, &stopped.state, 1, &fault) == DWCHECK_DONE);
+    const auto frame = section.step(cursor, stopped.state);
+    CHECK(frame && frame->address == LOAD + 0x1009 && frame->cfa.value == STACK + 8 && cursor.stage == DWCHECK_CURSOR_CALLER);
+    header.length--;
+    CHECK(dwcheck::in_place(dwcheck::eh_module_of(eh, length, 0x2000, LOAD), header).step(cursor, stopped.state).why().status ==
+          DWCHECK_NO_TABLE);
+}
+
 int main() {
     auto bytes = section();
     CHECK(dwcheck::check(bytes.data(), bytes.size()) && dwcheck::check(nullptr, 0));
@@ -123,6 +143,8 @@ int main() {
                                0x10, 0, 0, 0, 0x1c, 0, 0, 0, 0xe9, 0xef, 0xff, 0xff, 3, 0, 0, 0, 0, 0, 0, 0, 0, 0, 0, 0};
     auto second = process.add(dwcheck::eh_module_of(eh, 44, 0x2000, 2 * LOAD));
     CHECK(second && process.module_at(2 * LOAD + 0x100b)->id == *second && process.remove(*second));
+
+    check_in_place(eh, 44);
 
     auto other = process.share();
     CHECK(other && process.remove(1) && !process.remove(1) && !process.module_at(LOAD + 0x1000));

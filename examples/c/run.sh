@@ -1,7 +1,8 @@
 #!/bin/sh
 # Builds the examples and runs them. The frames that `stack`, `crash`, `attach` and `core` print must be
 # those that gdb finds in the same process or core file. The first one that `crash` prints must be in the function `deep`,
-# by its file and its address there. A stack that `profiler` prints must contain the function `often`.
+# by its file and its address there. A stack that `profiler` prints must contain the function `often`. The CFA that
+# `in_place` finds must be the compiler's.
 # usage: examples/c/run.sh
 # The flags with which the compiler finds the libraries come from pkg-config, or from DWCHECK_FLAGS if
 # it is set, for example DWCHECK_FLAGS="-Iinclude libdwcheck-dl.a libdwcheck.a".
@@ -11,7 +12,7 @@ out=$(mktemp -d)
 trap 'rm -rf "$out"' EXIT
 library=${DWCHECK_FLAGS:-$(pkg-config --cflags --libs dwcheck-dl)}
 build="-std=gnu11 -Wall -Wextra -Werror -O2 -g -fno-optimize-sibling-calls -rdynamic"
-for program in stack crash profiler attach core; do
+for program in stack crash profiler attach core in_place; do
     case $program in
     attach | core) with=$here/remote.c ;;
     *) with=$here/state.c ;;
@@ -99,3 +100,6 @@ echo "ok core: $(wc -l < "$out/ours") frames of two threads are gdb's"
 "$out/profiler" | tee "$out/stacks"
 grep -q often "$out/stacks"
 echo "ok profiler: often is in a stack"
+"$out/in_place" | tee "$out/row"
+[ "$(sed -n 's/^cfa \(0x[0-9a-f]*\) by .*/\1/p' "$out/row" | uniq | wc -l)" -eq 1 ]
+echo "ok in_place: the CFA of the row is the compiler's"

@@ -236,6 +236,37 @@ extern "C" {
         frame: *mut Frame,
     ) -> u32;
 
+    /// Writes the row that covers `address`, an address as loaded, without preparation: only the FDE to
+    /// which the table of `header` leads and its CIE are read and checked. The row is written as by
+    /// dwcheck_row_at, with the id 0, and `is_signal_frame` as by dwcheck_is_signal_frame. Returns DONE;
+    /// NONE if the table leads to no FDE that covers the address; REFUSED with the first fault of the
+    /// FDE and its CIE; NO_ROOM if the two have more than 32 expressions, or one of more than 16 bytes;
+    /// TOO_LONG; BAD_KIND; BAD_TARGET; or NO_TABLE. Only DONE writes `row`, `rules` and
+    /// `is_signal_frame`, and only REFUSED writes `fault`. The call neither allocates nor frees.
+    pub fn dwcheck_row_in(
+        module: *const Module,
+        header: *const Header,
+        address: u64,
+        row: *mut Row,
+        rules: *mut Rule,
+        rules_length: usize,
+        is_signal_frame: *mut u32,
+        fault: *mut Fault,
+    ) -> u32;
+
+    /// Steps as dwcheck_cursor_step does, by the row that dwcheck_row_in finds for the frame. If it
+    /// finds none, the walk ends. Returns DONE; NONE if the walk has ended; NO_PLACE; or any other
+    /// status that dwcheck_row_in returns. Only DONE changes `cursor` and `frame`, and only REFUSED
+    /// writes `fault`. The call neither allocates nor frees.
+    pub fn dwcheck_step_in(
+        module: *const Module,
+        header: *const Header,
+        cursor: *mut Cursor,
+        state: *const State,
+        frame: *mut Frame,
+        fault: *mut Fault,
+    ) -> u32;
+
     /// Checks all paths of an expression, and runs it with the registers and memory of `state`,
     /// whose ABI isn't used. The pieces of the result go into `pieces`, as many as fit. If the
     /// result is LOCATION_BYTES, or if piece `n` (counted from 0) is, these bytes go into `bytes`,

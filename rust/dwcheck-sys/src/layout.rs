@@ -61,6 +61,7 @@ fn layouts() -> (String, String) {
         layout!(Cache, "dwcheck_cache": hints),
         layout!(Cursor, "dwcheck_cursor": contents known address stage reserved),
         layout!(Reader, "dwcheck_reader": read data order address_size),
+        layout!(Header, "dwcheck_header": bytes length address),
         layout!(Context, "dwcheck_context": cfa frame_base object has_cfa has_frame_base has_object
             reserved),
         layout!(Value, "dwcheck_value": value kind offset steps count),
@@ -82,7 +83,7 @@ macro_rules! numbers {
 fn constants() -> (String, String) {
     let all = numbers! {
         DONE "DONE" REFUSED "REFUSED" NO_MEMORY "NO_MEMORY" NO_ROOM "NO_ROOM" TOO_LONG "TOO_LONG"
-        NONE "NONE" OVERLAPS "OVERLAPS" BAD_RANGE "BAD_RANGE" NO_PLACE "NO_PLACE" LITTLE "LITTLE" BIG "BIG"
+        NONE "NONE" OVERLAPS "OVERLAPS" BAD_RANGE "BAD_RANGE" NO_PLACE "NO_PLACE" NO_TABLE "NO_TABLE" LITTLE "LITTLE" BIG "BIG"
         IN_FRAME "IN_FRAME" IN_LISTS "IN_LISTS" IN_EXPRESSION "IN_EXPRESSION" IN_ABI "IN_ABI"
         DEBUG_FRAME "DEBUG_FRAME" EH_FRAME "EH_FRAME" EH_FRAME_AARCH64 "EH_FRAME_AARCH64"
         RECORD_CIE "RECORD_CIE" RECORD_FDE "RECORD_FDE" RECORD_EMPTY "RECORD_EMPTY"

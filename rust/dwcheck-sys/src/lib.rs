@@ -40,7 +40,7 @@ pub const DONE: u32 = 0;
 pub const REFUSED: u32 = 1;
 /// malloc or realloc returned NULL.
 pub const NO_MEMORY: u32 = 2;
-/// The table of the section can take more than `room` bytes.
+/// The table of the section can take more than `room` bytes; or see dwcheck_row_in.
 pub const NO_ROOM: u32 = 3;
 /// The section or expression has 2^32 bytes or more. (The statuses 4 and 6 are missing here: this
 /// crate passes only byte orders, address sizes and kinds of expressions that the library knows, and
@@ -54,6 +54,8 @@ pub const OVERLAPS: u32 = 8;
 pub const BAD_RANGE: u32 = 9;
 /// A register that is known has no place in a cursor.
 pub const NO_PLACE: u32 = 10;
+/// The header has no search table of the usual form.
+pub const NO_TABLE: u32 = 11;
 
 /// Byte orders: the least significant byte first, or last.
 pub const LITTLE: u32 = 0;
@@ -371,6 +373,15 @@ pub struct Reader {
     pub data: *mut c_void,
     pub order: u32,
     pub address_size: u32,
+}
+
+/// The .eh_frame_hdr section of a module, which begins at `address` as linked. Its search table leads
+/// from an address to the record of an FDE.
+#[repr(C)]
+pub struct Header {
+    pub bytes: *const u8,
+    pub length: usize,
+    pub address: u64,
 }
 
 /// The walk ends because `frames` has no room for more. (The five STOP_ constants are the reasons.)

@@ -49,7 +49,7 @@ use std::slice;
 /// ```
 #[derive(Clone)]
 pub struct Cursor {
-    raw: ffi::Cursor,
+    pub(crate) raw: ffi::Cursor,
 }
 
 impl Cursor {
@@ -184,12 +184,16 @@ where
     }
 }
 
-/// What a step gives that returned this status and wrote this frame.
-fn frame_of_step(status: u32, slot: [Frame; 1]) -> Result<Option<Frame>, Error> {
+/// What a step gives that returned this status and wrote this frame, or this fault.
+pub(crate) fn frame_of_step(
+    status: u32,
+    slot: [Frame; 1],
+    fault: ffi::Fault,
+) -> Result<Option<Frame>, Error> {
     if status == ffi::NONE {
         return Ok(None);
     }
-    Error::check(status, ffi::Fault::default())?;
+    Error::check(status, fault)?;
     Ok(Some(slot[0]))
 }
 
@@ -217,7 +221,7 @@ impl Process {
                 Frame::raw_slots(&mut slot),
             )
         };
-        frame_of_step(status, slot)
+        frame_of_step(status, slot, ffi::Fault::default())
     }
 
     /// Steps as [`step`](Process::step) does, but asks for the memory that the step needs: `read` is
@@ -294,7 +298,7 @@ impl Process {
             *cursor = before;
             resume_unwind(panic);
         }
-        frame_of_step(status, slot)
+        frame_of_step(status, slot, ffi::Fault::default())
     }
 
     /// The frames of a stack one by one, from the frame at an address: an iterator that allocates

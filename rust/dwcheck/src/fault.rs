@@ -342,7 +342,8 @@ pub enum Error {
     /// Memory ran out.
     NoMemory,
     /// The table of the section can take more bytes than the module's
-    /// [`room`](crate::Module::room).
+    /// [`room`](crate::Module::room). Or a look-up [in place](crate::EhFrameInPlace) has no room for
+    /// the expressions of an FDE and its CIE.
     NoRoom,
     /// The section or the expression has 2^32 bytes or more.
     TooLong,
@@ -356,6 +357,8 @@ pub enum Error {
     /// A register with a number of 96 or more is known, which has no place in a
     /// [`Cursor`](crate::Cursor).
     NoPlace,
+    /// The `.eh_frame_hdr` section has no search table as linkers write it, or is shorter than the table.
+    NoTable,
     /// The number of a status that this crate doesn't know, because the library is newer.
     Other(u32),
 }
@@ -387,6 +390,7 @@ impl Error {
             ffi::TOO_LONG => Err(Error::TooLong),
             ffi::BAD_RANGE => Err(Error::Range),
             ffi::NO_PLACE => Err(Error::NoPlace),
+            ffi::NO_TABLE => Err(Error::NoTable),
             other => Err(Error::Other(other)),
         }
     }
@@ -402,6 +406,7 @@ impl fmt::Display for Error {
             Error::Overlaps(id) => write!(f, "the range shares addresses with module {}", id),
             Error::Range => f.pad("no range of addresses to answer for"),
             Error::NoPlace => f.pad("a register has no place in a cursor"),
+            Error::NoTable => f.pad("the header has no search table of the usual form"),
             Error::Other(status) => write!(f, "unknown status {}", status),
         }
     }

@@ -10,6 +10,7 @@
 //! - A [`FrameSection`] is checked by itself, `.eh_frame` too, or read record by record.
 //! - A [`Process`] has modules, each a frame section with a load address and a range of addresses.
 //!   It gives the [`Row`] of an address, the [`Caller`] of a frame, and the frames of a stack.
+//! - An [`EhFrameInPlace`] gives rows and steps without preparation.
 //! - [`locations`] and [`list_locations`] give the expressions of a location list that apply at an address.
 //! - [`evaluate`] gives the result of an expression.
 //!
@@ -50,6 +51,7 @@ mod expression;
 mod fault;
 mod ffi;
 mod frame_section;
+mod in_place;
 #[cfg(test)]
 mod layout;
 mod lists;
@@ -74,6 +76,7 @@ pub use expression::{
 };
 pub use fault::{Error, Fault, FaultKind, Section};
 pub use frame_section::{Contents, FrameSection, Record, RecordKind, Records};
+pub use in_place::EhFrameInPlace;
 pub use lists::{list_locations, locations, Lookup};
 pub use module::{EhFrame, LoadedModule, Module, ModuleId};
 pub use process::Process;

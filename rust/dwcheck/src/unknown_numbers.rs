@@ -34,6 +34,7 @@ fn statuses() {
         (8, Err(Error::Other(8))),
         (9, Err(Error::Range)),
         (10, Err(Error::NoPlace)),
+        (11, Err(Error::NoTable)),
         (1000, Err(Error::Other(1000))),
     ] {
         assert_eq!(Error::check(status, fault), want);

@@ -7,6 +7,7 @@ mod common;
 mod expressions;
 mod fault_names;
 mod hostile;
+mod in_place;
 mod lists;
 mod modules;
 mod reading;
