@@ -397,13 +397,14 @@ uint32_t dwcheck_cursor_step_with(const dwcheck_process *process, dwcheck_cursor
 
 /* ---- in place ------------------------------------------------------------------------------------------------------ */
 /* The .eh_frame_hdr section of a module, which begins at `address` as linked. Its search table leads from an address
-   to the record of an FDE. */
+   to the record of an FDE. If `length` is 0, there is none, and the section's records are gone through. */
 typedef struct dwcheck_header { const uint8_t *bytes; size_t length; uint64_t address; } dwcheck_header;
 
 /* Writes the row that covers `address`, an address as loaded, without preparation: only the FDE to which the table
    leads and its CIE are read and checked, whatever other bytes the section has. No process is needed, nothing is
    allocated, and nothing is kept, so the call may be made at any moment, also in a signal handler. It takes up to 48
-   KB of stack, and O(log n) time among n entries, plus what the two records take.
+   KB of stack, and O(log n) time among n entries, plus what the two records take; without a table, time in proportion
+   to the bytes before the FDE.
 
    Of `module`, the call uses what dwcheck_module_check uses, load_address and `cookie`. `kind` is that of an .eh_frame
    section. In the process itself, section_address and the header's `address` may be where the sections lie, and

@@ -20,8 +20,8 @@ mod walk_text;
 mod writer;
 
 pub use dw_requests::{End, ListLookup, Request, Task, Usage, request};
-pub use dw_sections::{CheckFault, Checked, Section, check, unwind};
-pub use dw_unwind::{Answer, Caller};
+pub use dw_sections::{CheckFault, Checked, Section, backtrace, check, unwind, unwind_with};
+pub use dw_unwind::{Answer, Backtrace, Caller, Frame, Stop};
 pub use reports::report;
 pub use runs::run;
 pub use sink::{Sink, Stopped, Through};

@@ -6,4 +6,4 @@ pub mod laws;
 mod signals;
 
 pub use check::check_eh_frame;
-pub use signals::{SignalRange, is_signal_address, signal_frames};
+pub use signals::{SignalRange, cie_after, is_signal_address, signal_frames};

@@ -34,9 +34,10 @@ fn push_signal_frame(ranges: &mut Vec<SignalRange>, record: &EhRecord<'_>) -> Re
     Ok(())
 }
 
-/// The CIE that was read last, once this record was read.
+/// The CIE that was read last, once this record was read. Who goes through the records of a section
+/// passes it to `eh_record_after`.
 #[inline(always)]
-fn cie_after<'a>(record: &EhRecord<'a>, last: Option<EhCie<'a>>) -> Option<EhCie<'a>>
+pub fn cie_after<'a>(record: &EhRecord<'a>, last: Option<EhCie<'a>>) -> Option<EhCie<'a>>
     ensures { (is_aarch64 : Bool) (target : Target) (section : List ℕ) → HasCieOf is_aarch64 target section record.now
         → IfSome last.entry (IsCieOf is_aarch64 target section) → IfSome result (IsCieOf is_aarch64 target section) }
 {

@@ -7,3 +7,4 @@ pub mod SameRow
 pub mod Sections
 pub mod Following
 pub mod InForce
+pub mod Scanned

@@ -12,7 +12,7 @@ use Rattle.dw_eh_frame.specs.declared.pointer.Bases.{Bases}
 use Rattle.dw_eh_frame.specs.Records.{EhFde, eh_record_at, lost}
 use Rattle.dw_eh_rows.specs.Signals.{fde_in}
 
--- A section where it lies: whether its programs are for aarch64, where it is, how its numbers are
+-- A section in place: whether its programs are for aarch64, where it is, how its numbers are
 -- read, and its bytes.
 pub record SectionInPlace : Type 0 where
   pub is_aarch64 : Bool
@@ -25,8 +25,8 @@ lying is_aarch64 bases target section = record { is_aarch64 = is_aarch64; bases 
 
 -- ---- the first fault
 
--- whether the CIE ends where the FDE begins, or before it, as it does in an accepted section. The LSB
--- doesn't ask for this.
+-- whether the CIE ends where the FDE begins, or before it, as it does in an accepted section. The
+-- LSB doesn't ask for this.
 abbrev pub is_after_cie : EhFde → Bool
 is_after_cie e = nat_le (end_of e.cie.cie.program) e.fde.offset
 

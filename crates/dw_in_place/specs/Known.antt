@@ -89,7 +89,7 @@ IsKnownAnswer s at a answers.Unsure known = Unit {0}
 
 -- ---- what a `FrameInPlace` has found
 
--- a section where it lies, and the FDE and the row that were found last, if there are any
+-- a section in place, and the FDE and the row that were found last, if there are any
 pub record Looking : Type 0 where
   pub section : SectionInPlace
   pub found : Option (EhFde × Row)

@@ -7,6 +7,8 @@ pub mod SearchTables
 pub mod InPlace
 -- a look-up by the table and then in place; when a table leads to all FDEs
 pub mod LookUps
+-- a look-up without a table, by going through the records
+pub mod Scans
 -- ---- What values of the code's types stand for.
 pub mod Views
 -- what a look-up in place keeps for the next one

@@ -15,8 +15,8 @@ use Rattle.dw_in_place.specs.InPlace.{SectionInPlace, found_at, row_of_fde}
 abbrev pub record_offset : Table → ℕ → ℕ → ℕ
 record_offset t start k = wrapped t.target (record_in t k + (2 ^ 64 - start))
 
--- What a look-up of the address a gives once a search has found an entry: what is read at the offset
--- that the entry names. None without an entry, or if the offset is past the section's end.
+-- What a look-up of the address a gives once a search has found an entry: what is read at the
+-- offset that the entry names. None without an entry, or if the offset is past the section's end.
 abbrev pub fde_by_entry : SectionInPlace → Table → ℕ → Option ℕ → Result (Option EhFde) Fault
 fde_by_entry s t a None = Ok None
 fde_by_entry s t a (Some k) =

@@ -1,6 +1,6 @@
 -- The binary search table of an `.eh_frame_hdr` section (LSB Core, section 10.6.2), in the encoding
--- that linkers write. It is meant to have an entry for each FDE of `.eh_frame`, in order of their first
--- addresses.
+-- that linkers write. It is meant to have an entry for each FDE of `.eh_frame`, in order of their
+-- first addresses.
 use Rattle.std.specs.Prelude.{ℕ, ◌+◌, ◌*◌, ◌%◌, ◌^◌, ◌<◌, ◌≤◌, ◌==◌, ◌&&◌, nat_le, Bool, false, if◌then◌else◌, List, ◌∷◌, length, drop}
 use Rattle.std.specs.Prelude.{Option, Some, None}
 use Rattle.dw_bytes.specs.declared.target.Target.{Target}

@@ -1,4 +1,4 @@
-//! Many look-ups in an `.eh_frame` section where it lies, with nothing prepared.
+//! Many look-ups in an `.eh_frame` section in place, without preprocessing.
 
 ghost use Rattle.std.specs.Prelude.{◌≡◌, None, IfSome, IsSome};
 ghost use Rattle.dw_eh_frame.specs.Views.{eh_fde_of, fde_with_cie};
@@ -8,6 +8,7 @@ use crate::in_place::{
     lend_checked,
 };
 use crate::record_offset::offset_of_record;
+use crate::scan::first_covering;
 use crate::search_table::SearchTable;
 use crate::section_in_place::SectionInPlace;
 use dw_bytes::Fault;
@@ -36,14 +37,16 @@ pub struct FoundRow<'a> {
     pub end: u64,
 }
 
-/// An `.eh_frame` section in place, with the working memory of look-ups. Nothing is preprocessed, and
-/// each look-up reads and checks two records only, an FDE and its CIE. The rules that the last two CIEs
-/// leave are kept, if these have no fault and no expressions, since most FDEs have one of those.
+/// An `.eh_frame` section in place, with the working memory of look-ups. Nothing is preprocessed,
+/// and each look-up reads and checks two records only, an FDE and its CIE. The rules that the last
+/// two CIEs leave are kept, if these have no fault and no expressions, since most FDEs have one of
+/// those.
 ///
-/// It takes some 9 KB. Create one, and reuse it for many look-ups: they allocate nothing. Nearly all
-/// take less than 1 KB of stack; a program with an expression or a rare instruction takes up to 40 KB, for
-/// which the alternate stack of a signal handler needs room. A handler needs a `FrameInPlace` of its
-/// own, since it may interrupt a look-up.
+/// It takes some 9 KB. Create one, and reuse it for many look-ups: they allocate nothing. A look-up
+/// takes 2 KB of stack for each remember_state that is open at the row, and a program with an
+/// expression or a rare instruction takes up to 40 KB, for which the alternate stack of a signal
+/// handler needs room. A handler needs a `FrameInPlace` of its own, since it may interrupt a
+/// look-up.
 ///
 /// ```rust
 /// let mut frame = FrameInPlace::new(alloc, section);
@@ -137,13 +140,15 @@ fn found_by_check<'a>(place: Place, fde: &EhFde<'a>, row: CheckedRow) -> FoundRo
 }
 
 impl<'a> FrameInPlace<'a> {
-    ghost use Rattle.std.specs.Prelude.{ℕ, ◌≡◌, ◌⊎◌, ◌≤◌, is_some, length, IfOk, IfSome, IsSome, MatchResult, None, OnErr, OnOk, Option, Some, Ok, Err, option_map};
+    ghost use Rattle.std.specs.Prelude.{ℕ, ◌≡◌, ◌⊎◌, ◌≤◌, is_some, length, IfOk, IfSome, IsSome, MatchResult, None, OnErr, OnOk, Option, Some, Ok, Err, Result, option_map};
     ghost use Rattle.dw_bytes.specs.Answers.{Answers, memory};
+    ghost use Rattle.dw_bytes.specs.declared.fault.Fault.{Fault as Why};
     ghost use Rattle.dw_rows.specs.Section.{Covers, IsChecked};
     ghost use Rattle.dw_eh_frame.specs.Views.{IsCieOf, eh_fde_of};
     ghost use Rattle.dw_in_place.specs.InPlace.{alone, fde_in_place_fault, found_at, row_of_fde};
     ghost use Rattle.dw_in_place.specs.Known.{IsRead, has_fde, has_row};
     ghost use Rattle.dw_in_place.specs.LookUps.{fde_by_entry};
+    ghost use Rattle.dw_in_place.specs.Scans.{Scans, fde_by_place};
     ghost use Rattle.dw_in_place.specs.SearchTables.{Finds};
     ghost use Rattle.dw_in_place.specs.Views.{section_of, table_of};
 
@@ -202,19 +207,19 @@ impl<'a> FrameInPlace<'a> {
         found.fde
     }
 
-    /// Finds the row of an address in the record at the offset `at` of the section, which must not be past
-    /// its end. The result says whether there is one: then `row` lends it, and `fde` returns the record
-    /// as an FDE, with its CIE. Only these two records are read, whatever bytes are there. Once they
-    /// have been read, there is no row if the record isn't an FDE, or doesn't cover the address: then
-    /// neither program is checked. Pass the return address minus 1 for the caller of a frame, unless
-    /// the frame is a signal frame.
+    /// Finds the row of an address in the record at the offset `at` of the section, which must not
+    /// be past its end. The result says whether there is one: then `row` lends it, and `fde`
+    /// returns the record as an FDE, with its CIE. Only these two records are read, whatever bytes
+    /// are there. Once they have been read, there is no row if the record isn't an FDE, or doesn't
+    /// cover the address: then neither program is checked. Pass the return address minus 1 for the
+    /// caller of a frame, unless the frame is a signal frame.
     ///
     /// The error is the first fault, with its offset in the section: a fault of `eh_record`;
-    /// `NoSuchCie` (9) at the CIE pointer, if the CIE ends after the FDE begins; a fault of the CIE's
-    /// program, or else of the FDE's, up to its end, as `check_fde` of `dw_rows` reports it. `Memory`
-    /// (60), at 0, says that the two programs together have more than `MAX_FEW` (32) expressions, or
-    /// that an expression is longer than 16 bytes, whether or not the row uses it; then the rest isn't
-    /// checked. It takes time in proportion to the bytes of the two records.
+    /// `NoSuchCie` (9) at the CIE pointer, if the CIE ends after the FDE begins; a fault of the
+    /// CIE's program, or else of the FDE's, up to its end, as `check_fde` of `dw_rows` reports it.
+    /// `Memory` (60), at 0, says that the two programs together have more than `MAX_FEW` (32)
+    /// expressions, or that an expression is longer than 16 bytes, whether or not the row uses it;
+    /// then the rest isn't checked. It takes time in proportion to the bytes of the two records.
     #[inline(always)]
     pub fn find_at(&mut self, at: u32, address: u64) -> Result<bool, Fault>
         requires { at ≤ length self.old.section.bytes }
@@ -324,13 +329,40 @@ impl<'a> FrameInPlace<'a> {
         }
     }
 
-    /// Finds the row of an address in the record that a table names for it, as `find_at` does. There is
-    /// none if the table names no record for the address, or one past the section's end; or if that
-    /// record isn't an FDE, or doesn't cover the address. The row is always that of the record that was
-    /// read, but a wrong table may lead to no row, or to bytes within another record; in a table out of
-    /// order an address may have several entries. It is the row that a check of the whole section gives,
-    /// if the section is accepted and the table leads to all FDEs (law `look_ups_find_all_rows`). That
-    /// the table is this section's isn't checked: compare its `frame_address` with `bases.section`.
+    /// Finds the row of an address in the first FDE of the section that covers it, as `find_at` does.
+    /// This is for a section without a search table, such as one that a JIT compiler writes: the
+    /// records before the FDE are read one after another, so it takes time in proportion to their
+    /// bytes. Once they have been read, there is no row if no FDE covers the address.
+    ///
+    /// The error is the first fault of a record before that FDE, or one of `find_at`.
+    pub fn find_by_records(&mut self, address: u64) -> Result<bool, Fault>
+        ensures fde { (place : Result (Option ℕ) Why) × Scans self.old.section address place × MatchResult result
+            (λ _. fde_by_place self.old.section address place ≡ Ok (option_map has_fde self.new.found))
+            (λ fault. (fault ≡ memory) ⊎ (fde_by_place self.old.section address place ≡ Err fault)) }
+        ensures some { IfOk result (λ is_found. is_found ≡ is_some self.new.found) }
+        ensures row { IfSome self.new.found (λ f.
+            row_of_fde self.old.section.target self.old.section.bytes (has_fde f) address ≡ Some (has_row f)) }
+        ensures checked { IfSome self.new.found (λ f.
+            IsChecked (alone self.old.section.target self.old.section.bytes (has_fde f))) }
+        ensures covers { IfSome self.new.found (λ f. Covers (has_fde f).fde address) }
+        ensures same { self.new.section ≡ self.old.section }
+        ensures none { OnErr result (self.new.found ≡ None) }
+    {
+        self.found = None;
+        let Some(at) = first_covering(&self.section, address)? else {
+            return Ok(false);
+        };
+        self.find_at(at, address)
+    }
+
+    /// Finds the row of an address in the record that a table names for it, as `find_at` does.
+    /// There is none if the table names no record for the address, or one past the section's end;
+    /// or if that record isn't an FDE, or doesn't cover the address. The row is always that of the
+    /// record that was read, but a wrong table may lead to no row, or to bytes within another
+    /// record; in a table out of order an address may have several entries. It is the row that a
+    /// check of the whole section gives, if the section is accepted and the table leads to all FDEs
+    /// (law `look_ups_find_all_rows`). That the table is this section's isn't checked: compare its
+    /// `frame_address` with `bases.section`.
     ///
     /// The search takes O(log n) for n entries. For the errors see `find_at`.
     #[inline(always)]

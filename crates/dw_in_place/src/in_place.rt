@@ -1,4 +1,4 @@
-//! The row of an address from one FDE and its CIE, read and checked where they lie.
+//! The row of an address from one FDE and its CIE, which are read and checked in place.
 
 ghost use Rattle.std.specs.Prelude.{ℕ, ◌≡◌, ◌⊎◌, ◌≤◌, ◌<◌, ◌^◌, ◌↔◌, ◌++◌, [], Bool, false, List, length, take, drop, None, IsTrue, IsSome, IfOk, IfSome, OnErr, OnOk, MatchResult, Ok, Err, option_map};
 ghost use Rattle.dw_bytes.specs.Answers.{Answers, memory};
@@ -59,8 +59,8 @@ pub enum KnownAnswer<'a> {
     Unsure,
 }
 
-/// A row that was found after a full check of both programs. `in_cie` of the checked expressions are
-/// the CIE's.
+/// A row that was found after a full check of both programs. `in_cie` of the checked expressions
+/// are the CIE's.
 #[derive(Clone, Copy)]
 pub struct CheckedRow {
     pub in_cie: usize,
@@ -93,14 +93,14 @@ fn is_after_its_cie(cie: &EhCie<'_>, fde: &FrameDescriptionEntry<'_>) -> bool
 
 /// Whether an FDE covers an address.
 #[inline(always)]
-fn covers_address(fde: &FrameDescriptionEntry<'_>, address: u64) -> bool
+pub(crate) fn covers_address(fde: &FrameDescriptionEntry<'_>, address: u64) -> bool
     ensures { IsTrue result ↔ Covers (fde_of fde.now) address }
 {
     fde.initial_location <= address && address - fde.initial_location < fde.address_range
 }
 
-/// The row of an address that an FDE of a CIE has, if its program can be checked quickly. The initial
-/// rules in `state` must be those that the CIE's program leaves, and stay so.
+/// The row of an address that an FDE of a CIE has, if its program can be checked quickly. The
+/// initial rules in `state` must be those that the CIE's program leaves, and stay so.
 #[inline(always)]
 fn seek_quickly<'a>(
     state: &mut UnwindState,
@@ -127,8 +127,8 @@ fn seek_quickly<'a>(
     }
 }
 
-/// Looks up the row of an address in the record at the offset `at` of a section, if it is an FDE of a
-/// CIE that is known. Then neither the CIE nor its program is read again.
+/// Looks up the row of an address in the record at the offset `at` of a section, if it is an FDE of
+/// a CIE that is known. Then neither the CIE nor its program is read again.
 #[inline(always)]
 pub(crate) fn find_known<'a>(
     section: &SectionInPlace<'a>,
@@ -196,8 +196,8 @@ pub(crate) fn covering_fde<'a>(
 }
 
 /// Checks the program of an FDE that may have any instructions, and adds its expressions to
-/// `checked`. `initial` must be the rules that the CIE's program leaves. It takes 36 KB of stack, for
-/// the rules that remember_states save.
+/// `checked`. `initial` must be the rules that the CIE's program leaves. It takes 36 KB of stack,
+/// for the rules that remember_states save.
 #[inline(never)]
 fn check_fully<'a>(
     initial: &RuleSet,

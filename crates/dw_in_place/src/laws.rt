@@ -1,5 +1,5 @@
-//! Laws about look-ups in place. The functions do nothing, but for the laws of other crates that they
-//! call: the contract of each is a law.
+//! Laws about look-ups in place. The functions do nothing, but for the laws of other crates that
+//! they call: the contract of each is a law.
 
 ghost use Rattle.std.specs.Prelude.{ℕ, ◌≡◌, ◌<◌, ◌↔◌, ◌++◌, Bool, List, Contains, Option, Some, None, Ok};
 ghost use Rattle.dw_bytes.specs.Answers.{values_in};
@@ -13,9 +13,9 @@ ghost use Rattle.dw_in_place.specs.InPlace.{fde_at, lying, row_of_fde};
 ghost use Rattle.dw_in_place.specs.LookUps.{GivesRow, LeadsToAll};
 ghost use Rattle.dw_in_place.specs.SearchTables.{Table, Finds, IsEntryFor, IsInOrder, IsLastBy, location_in};
 
-/// In a table that is in order, an entry is that of an address if and only if it is the last one that
-/// begins at the address or before it. An address has at most one. If a search finds none, each
-/// entry begins after the address.
+/// In a table that is in order, an entry is that of an address if and only if it is the last one
+/// that begins at the address or before it. An address has at most one. If a search finds none,
+/// each entry begins after the address.
 pub fn one_entry_in_order()
     ensures last { (t : Table) (a k : ℕ) → IsInOrder t → IsEntryFor t a k ↔ IsLastBy t a k }
     ensures one { (t : Table) (a j k : ℕ) → IsInOrder t → IsEntryFor t a j → IsEntryFor t a k → j ≡ k }
@@ -30,8 +30,8 @@ pub fn bytes_after_a_section_change_nothing()
         → fde_at is_aarch64 bases target (section ++ more) at a ≡ Ok found }
 {}
 
-/// If `check_eh_frame` accepts a section, each of its FDEs that isn't left out as an exact copy is found
-/// in place without a fault, for each address that it covers, and its row is the section's.
+/// If `check_eh_frame` accepts a section, each of its FDEs that isn't left out as an exact copy is
+/// found in place without a fault, for each address that it covers, and its row is the section's.
 pub fn rows_in_place_are_those_of_the_section()
     ensures fde { (is_aarch64 : Bool) (bases : Bases) (target : Target) (section : List ℕ)
         → eh_section_fault is_aarch64 bases target section ≡ None → (e : EhFde)

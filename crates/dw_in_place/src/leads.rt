@@ -49,8 +49,8 @@ fn leads_to(table: &SearchTable<'_>, start: u64, fde: &FrameDescriptionEntry<'_>
     true
 }
 
-/// Whether the record that an entry of a table names is one of these FDEs, which are in the order of
-/// the section.
+/// Whether the record that an entry of a table names is one of these FDEs, which are in the order
+/// of the section.
 fn names_one(
     table: &SearchTable<'_>,
     start: u64,
@@ -101,11 +101,11 @@ fn leads_to_each(table: &SearchTable<'_>, start: u64, fdes: &[FrameDescriptionEn
     true
 }
 
-/// Whether a search table leads to all FDEs of a checked section: the table is in order, and for each
-/// FDE a single entry serves all its addresses and names its record; and it names no other records. A
-/// linker's table usually does, but not if an FDE has an exact copy, or if an empty FDE begins within
-/// another one. `start` is the address of the section, and `frame` is what `check_eh_frame` made of it.
-/// It takes O((m + n) log (m + n)) for m entries and n FDEs.
+/// Whether a search table leads to all FDEs of a checked section: the table is in order, and for
+/// each FDE a single entry serves all its addresses and names its record; and it names no other
+/// records. A linker's table usually does, but not if an FDE has an exact copy, or if an empty FDE
+/// begins within another one. `start` is the address of the section, and `frame` is what
+/// `check_eh_frame` made of it. It takes O((m + n) log (m + n)) for m entries and n FDEs.
 ///
 /// Then a look-up by the table gives the row that the section has, for each address (law
 /// `look_ups_find_all_rows`).

@@ -7,8 +7,8 @@ ghost use Rattle.dw_in_place.specs.SearchTables.{address_at, is_usual, word_at};
 use byteorder::{BigEndian, ByteOrder, LittleEndian};
 use dw_bytes::{AddressSize, Order, Target};
 
-/// The binary search table of an `.eh_frame_hdr` section: for an FDE its first address and the address
-/// of its record, in the order of first addresses. It borrows the section's bytes, and they
+/// The binary search table of an `.eh_frame_hdr` section: for an FDE its first address and the
+/// address of its record, in the order of first addresses. It borrows the section's bytes, and they
 /// are read as they are needed. Whether they are in order isn't checked (`is_in_order` does), nor
 /// whether they are right (`leads_to_all` does).
 ///
@@ -88,10 +88,10 @@ fn read_address(bytes: &[u8], target: Target, base: u64, at: usize) -> u64
     address_from(target, base, read_word(bytes, target, at))
 }
 
-/// A guess of the index of the entry for an address that is `key` after the header, in a table whose
-/// numbers are little-endian: nothing says that it is right, and it must be checked. It compares the
-/// numbers as they are written, and adds the results of comparisons instead of branching, since each
-/// branch would be mispredicted about half of the time.
+/// A guess of the index of the entry for an address that is `key` after the header, in a table
+/// whose numbers are little-endian: nothing says that it is right, and it must be checked. It
+/// compares the numbers as they are written, and adds the results of comparisons instead of
+/// branching, since each branch would be mispredicted about half of the time.
 #[inline(always)]
 fn guess_entry(entries: &[u8], count: u32, key: i64) -> u32
     requires { 8 * count ≤ length entries.now }
@@ -188,11 +188,11 @@ impl<'a> SearchTable<'a> {
         )
     }
 
-    /// The index of the entry for an address: the entry begins at that address or before it, and the
-    /// next one begins after it. `None` if there are no entries, or if the first one begins after
-    /// the address. In a table that is in order it is the last entry that begins at the address or
-    /// before it (law `one_entry_in_order`). In another one an address may have several, and each call
-    /// may find another. It is found by binary search, in O(log n) for n entries.
+    /// The index of the entry for an address: the entry begins at that address or before it, and
+    /// the next one begins after it. `None` if there are no entries, or if the first one begins
+    /// after the address. In a table that is in order it is the last entry that begins at the
+    /// address or before it (law `one_entry_in_order`). In another one an address may have several,
+    /// and each call may find another. It is found by binary search, in O(log n) for n entries.
     #[inline(always)]
     pub fn entry_for_address(&self, address: u64) -> Option<u32>
         ensures { Finds (table_of self.now) address result }
@@ -249,8 +249,9 @@ impl<'a> SearchTable<'a> {
         Some(low)
     }
 
-    /// The address of the record that the table names for an address, in an entry that is one for the
-    /// address (`entry_for_address`). Nothing says that an FDE is there, or that it covers the address.
+    /// The address of the record that the table names for an address, in an entry that is one for
+    /// the address (`entry_for_address`). Nothing says that an FDE is there, or that it covers the
+    /// address.
     pub fn record_for_address(&self, address: u64) -> Option<u64>
         ensures { MatchOption result (Finds (table_of self.now) address None) (λ place. (k : ℕ)
             × IsEntryFor (table_of self.now) address k × (place ≡ record_in (table_of self.now) k)) }

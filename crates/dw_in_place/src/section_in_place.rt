@@ -1,11 +1,11 @@
-//! An `.eh_frame` section where it lies.
+//! An `.eh_frame` section in place.
 
 ghost use Rattle.std.specs.Prelude.{◌<◌, ◌^◌, length};
 
 use dw_bytes::Target;
 use dw_eh_frame::Bases;
 
-/// An `.eh_frame` section of fewer than 2^32 bytes where it lies. More bytes may follow it.
+/// An `.eh_frame` section of fewer than 2^32 bytes, in place. More bytes may follow it.
 ///
 /// ```rust
 /// let section = SectionInPlace {
@@ -21,8 +21,8 @@ pub struct SectionInPlace<'a> {
     pub bytes: &'a [u8],
     /// How its numbers are read.
     pub target: Target,
-    /// Where it is: as linked, or as loaded, like the table's address and the addresses that are looked
-    /// up.
+    /// Where it is: as linked, or as loaded, like the table's address and the addresses that are
+    /// looked up.
     pub bases: Bases,
     /// Whether its programs are for aarch64.
     pub is_aarch64: bool,

@@ -17,7 +17,7 @@ mod row_iter;
 
 pub use checked_expressions::CheckedExpressions;
 pub use checked_frame::{CheckedFrame, check_frame, check_records};
-pub use dw_rules::{CfaRule, RegisterRule, UnwindTableRow};
+pub use dw_rules::{Abi, CfaRule, MAX_REMEMBERED, RegisterRule, UnwindTableRow};
 pub use few_expressions::MAX_FEW;
 pub use index::IndexEntry;
 pub use lookup::{lend_row, seek_row};

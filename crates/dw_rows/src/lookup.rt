@@ -14,9 +14,10 @@ use crate::row_cursor::{Next, begin_rows_at, next_plain};
 use dw_frame::{CommonInformationEntry, FrameDescriptionEntry, Instructions};
 use dw_rules::{RowExpressions, RuleSet, UnwindRow, UnwindState, UnwindTableRow};
 
-/// Overwrites `row` with the row of `address`, which `seek_row` finds. `fde` must cover the address, its program must have
-/// passed its check, and the initial rules in `state` must be the rules that the CIE's program
-/// leaves. It runs the program up to that row, and allocates no memory.
+/// Overwrites `row` with the row of `address`, which `seek_row` finds. `fde` must cover the
+/// address, its program must have passed its check, and the initial rules in `state` must be the
+/// rules that the CIE's program leaves. It runs the program up to that row, and allocates no
+/// memory.
 pub(crate) fn write_row_at<'f, 'a>(
     state: &mut UnwindState,
     cie: &CommonInformationEntry<'a>,
@@ -66,10 +67,10 @@ pub fn lend_row<'t, 'a>(
     }
 }
 
-/// Runs an FDE's program up to the row of `address`, and returns where that row begins and ends. Its
-/// rules are then in force in `state`. `fde` must cover the address, its program must have passed
-/// its check, and the initial rules in `state` must be the rules that the CIE's program leaves;
-/// they stay. It allocates no memory.
+/// Runs an FDE's program up to the row of `address`, and returns where that row begins and ends.
+/// Its rules are then in force in `state`. `fde` must cover the address, its program must have
+/// passed its check, and the initial rules in `state` must be the rules that the CIE's program
+/// leaves; they stay. It allocates no memory.
 pub fn seek_row<'a>(
     state: &mut UnwindState,
     cie: &CommonInformationEntry<'a>,
@@ -102,10 +103,10 @@ pub fn seek_row<'a>(
 }
 
 /// Searches for the row of `address` between a remember_state and the matching restore_state.
-/// `instructions` must be just after the remember_state. If the row is there, the result is where it
-/// begins and ends, and its rules are in force. Otherwise `instructions` is just past the matching
-/// restore_state, and the rules from before the pair are in force again. Each call stores the rules
-/// at its remember_state, and calls itself for a nested pair.
+/// `instructions` must be just after the remember_state. If the row is there, the result is where
+/// it begins and ends, and its rules are in force. Otherwise `instructions` is just past the
+/// matching restore_state, and the rules from before the pair are in force again. Each call stores
+/// the rules at its remember_state, and calls itself for a nested pair.
 #[inline(never)]
 fn seek_in_bracket<'a>(
     state: &mut UnwindState,

@@ -1,5 +1,4 @@
-//! Checks a `.debug_frame` and a `.debug_loclists` section together, and finds the caller of a
-//! frame with them.
+//! Checks a `.debug_frame` and a `.debug_loclists` section together, and unwinds stacks with them.
 #![tactic(auto)]
 
 mod callers;
@@ -7,6 +6,6 @@ pub mod laws;
 mod section;
 mod whole_check;
 
-pub use callers::unwind;
+pub use callers::{backtrace, unwind, unwind_with};
 pub use section::Section;
 pub use whole_check::{CheckFault, Checked, SECTION_LIMIT, TOO_LONG, check};

@@ -1,14 +1,16 @@
-//! Look-ups in an `.eh_frame` section where it lies, by its `.eh_frame_hdr`.
+//! Look-ups in an `.eh_frame` section in place, by its `.eh_frame_hdr` and without.
 
-use crate::inputs::{BASES, LITTLE};
+use crate::inputs::{BASES, LITTLE, Unknown};
 use dw_bytes::Fault;
 use dw_eh_frame::EhFde;
 use dw_eh_rows::check_eh_frame;
 use dw_in_place::{
-    FrameInPlace, LookUpMemory, SearchTable, SectionInPlace, leads_to_all, row_for_address_in,
+    FrameInPlace, LookUpMemory, SearchTable, SectionInPlace, leads_to_all, row_by_records_in,
+    row_for_address_in,
 };
 use dw_rows::CfaRule;
-use dw_rules::UnwindRow;
+use dw_rules::{Abi, UnwindRow};
+use dw_unwind::{Answer, OneRow, unwind};
 use std::alloc::Global;
 use std::test::Fail;
 
@@ -84,6 +86,23 @@ fn once(alloc: Global, table: &SearchTable<'_>, address: u64) -> Result<Option<B
     }
 }
 
+/// The row of an address, by going through the records, in a single look-up.
+fn once_by_records(alloc: Global, address: u64) -> Result<Option<BriefRow>, Fault> {
+    let mut memory = LookUpMemory::new(alloc);
+    match row_by_records_in(&section(), address, &mut memory)? {
+        Some((row, fde)) => Ok(Some(in_brief(&row, &fde))),
+        None => Ok(None),
+    }
+}
+
+/// The row of an address, by going through the records, in one of many look-ups.
+fn found_by_records(frame: &mut FrameInPlace<'_>, address: u64) -> Result<Option<BriefRow>, Fault> {
+    if !frame.find_by_records(address)? {
+        return Ok(None);
+    }
+    Ok(Some(in_brief(&frame.row(), &frame.fde())))
+}
+
 fn section() -> SectionInPlace<'static> {
     SectionInPlace {
         bytes: &SECTION,
@@ -117,6 +136,31 @@ fn finds_rows_in_place(rt: HostRuntime) -> Result<(), Fail> {
     let lying = SearchTable::read(&LYING, LITTLE, 0x3000).expect(&rt, "a table");
     assert!(rt; found_in(&mut frame, &lying, 0x102a)?.is_none());
     assert!(rt; once(rt.alloc(), &lying, 0x102a)?.is_none());
+    Ok(())
+}
+
+#[test]
+fn finds_rows_without_a_table(rt: HostRuntime) -> Result<(), Fail> {
+    let mut frame = FrameInPlace::new(rt.alloc(), section());
+    for (address, expected) in FOUND {
+        let found = found_by_records(&mut frame, address)?;
+        assert!(rt; found == expected);
+        let alone = once_by_records(rt.alloc(), address)?;
+        assert!(rt; alone == expected);
+    }
+    Ok(())
+}
+
+#[test]
+fn unwinds_by_a_row_that_was_found_in_place(rt: HostRuntime) -> Result<(), Fail> {
+    let mut memory = LookUpMemory::new(rt.alloc());
+    let (row, fde) = row_by_records_in(&section(), 0x1000, &mut memory)?.expect(&rt, "a row");
+    let number = fde.cie.cie.return_address_register;
+    dw_rows::laws::rows_have_good_expressions();
+    let rows = OneRow::new(LITTLE, row, number);
+    let caller = unwind(&rows, &Abi::none(), 0x1000, &Unknown, &Unknown).expect(&rt, "a caller");
+    assert!(rt; caller.cfa == Answer::Unreadable);
+    assert!(rt; caller.return_address == Answer::Unreadable);
     Ok(())
 }
 

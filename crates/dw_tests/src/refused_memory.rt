@@ -9,8 +9,8 @@ use crate::inputs::{BASES, EXPRESSIONS, FUNCTION, LITTLE, PAIR_AND_DEFAULT, ROUN
 use crate::look_ups::looks_up_everything;
 use dw_bytes::{Fault, FaultKind, OUT_OF_MEMORY};
 use dw_check::{
-    End, LoadFault, Reading, Reads, ReportFault, Source, Through, Usage, check, load, report,
-    request, run,
+    Backtrace, End, LoadFault, Reading, Reads, ReportFault, Source, Stop, Through, Usage,
+    backtrace, check, load, report, request, run,
 };
 use dw_eh_rows::{check_eh_frame, is_signal_address, signal_frames};
 use dw_frame::{Entry, entries};
@@ -21,7 +21,6 @@ use dw_rows::{CheckedFrame, check_cie, check_fde, check_frame};
 use dw_rules::Abi;
 use dw_stack::{Kind, Mode, State, certify, recheck};
 use dw_tables::UnwindTable;
-use dw_unwind::{Backtrace, Stop};
 use std::alloc::{AllocError, Global};
 use std::io;
 use std::io::Write;
@@ -40,6 +39,7 @@ enum Call {
     Check,
     Compile,
     CompileMany,
+    Backtrace,
     BacktraceBySection,
     BacktraceByTable,
     ProcessAdd,
@@ -225,6 +225,17 @@ fn numbers_of(rt: &impl Abort, walk: &Backtrace) -> Numbers {
         walk.frames[1].address as usize,
         walk.frames[39].address as usize,
     )
+}
+
+/// A walk over two checked sections.
+fn of_walk_by_both(rt: &impl Abort, alloc: Global) -> Result<Numbers, Fault> {
+    match check(alloc, &ROUND, &[], LITTLE) {
+        Ok(checked) => {
+            let walk = backtrace(alloc, &checked, &Abi::none(), 3, &Unknown, &Unknown, 40)?;
+            Ok(numbers_of(rt, &walk))
+        }
+        Err(found) => Err(found.fault),
+    }
 }
 
 /// A walk over a checked section.
@@ -506,6 +517,7 @@ fn answer(
             assert_eq!(rt; section.len(), 32_024);
             of_table(rt, alloc, &section)
         }
+        Call::Backtrace => of_walk_by_both(rt, alloc),
         Call::BacktraceBySection => of_walk_by_section(rt, alloc),
         Call::BacktraceByTable => of_walk_by_table(rt, alloc),
         Call::ProcessAdd | Call::ProcessShare => of_process(rt, alloc, call),
@@ -564,7 +576,7 @@ expr frame 0x00000038 register ops 0 depth 1
 ";
 
 /// Calls, the bytes that they take, and what they write and give.
-const CALLS: [(Call, &[u8], &str, Numbers); 25] = [
+const CALLS: [(Call, &[u8], &str, Numbers); 26] = [
     (Call::Operations, &PUSHES, "", (40, 40, 0, 0)),
     (Call::Certify, &PUSHES, "", (40, 40, 40, 40)),
     (Call::Recheck, &PUSHES, "", (40, 40, 40, 40)),
@@ -578,6 +590,7 @@ const CALLS: [(Call, &[u8], &str, Numbers); 25] = [
     (Call::Check, &EXPRESSIONS, "", (1, 2, 1, 2)),
     (Call::Compile, &EXPRESSIONS, "", (0x1020, 0x1020, 0, 0)),
     (Call::CompileMany, &[], "", (0x1010, 0, 0x8cf0, 0)),
+    (Call::Backtrace, &[], "", (40, 3, 7, 7)),
     (Call::BacktraceBySection, &[], "", (40, 3, 7, 7)),
     (Call::BacktraceByTable, &[], "", (40, 3, 7, 7)),
     (Call::ProcessAdd, &[], "", (4, 0, 0, 0)),

@@ -46,7 +46,7 @@ impl<'r> OneRow<'r> {
     /// CIE names. The row's expressions must have the target.
     pub fn new(target: Target, row: UnwindRow<'r, 'r>, return_register: u16) -> Self
         requires { IsRowUnder target row }
-        ensures { result ≡ record { target = target; row = row; return_register = return_register } }
+        ensures { result ≡ record { target = target; row = row.entry; return_register = return_register } }
     {
         OneRow {
             target,

@@ -10,3 +10,4 @@ mod RightFields
 mod Shown
 mod UsualWalks
 mod WrittenFrames
+mod NoAnswers

@@ -1,6 +1,8 @@
 -- Look-ups in place: what C passes for one, and what it gets (LSB Core, section 10.6).
-use Rattle.std.specs.Prelude.{◌≡◌, ℕ, ◌^◌, ◌<◌, ◌≤◌, ◌×◌, ◌⊎◌, ◌==◌, if◌then◌else◌, Bool, true, false, List, length, Option, Some, None, Result, Ok, Err}
+use Rattle.std.specs.Prelude.{◌≡◌, ℕ, ◌^◌, ◌<◌, ◌≤◌, ◌⊎◌, ◌==◌, if◌then◌else◌, Bool, true, false, List, [], ◌∷◌, length, IsSome, Option, Some, None, Result, Ok, Err}
+use Rattle.dw_bytes.specs.Answers.{memory}
 use Rattle.dw_bytes.specs.declared.fault.Fault.{Fault}
+use Rattle.dw_bytes.specs.declared.fault.FaultKind.TheVariants.{Memory}
 use Rattle.dw_bytes.specs.declared.target.Target.{Target}
 use Rattle.dw_rules.specs.Abi.{Abi}
 use Rattle.dw_rules.specs.Rules.{Row}
@@ -9,6 +11,7 @@ use Rattle.dw_unwind.specs.Modules.{as_linked}
 use Rattle.dw_eh_frame.specs.Records.{EhFde}
 use Rattle.dw_in_place.specs.InPlace.{SectionInPlace, lying, row_of_fde}
 use Rattle.dw_in_place.specs.LookUps.{fde_by_entry}
+use Rattle.dw_in_place.specs.Scans.{Scans, fde_by_place}
 use Rattle.dw_in_place.specs.SearchTables.{Finds, Table, table_in}
 use Rattle.dw_c_types.specs.ProcessWalks.{Unwinding, through_held}
 use Rattle.dw_c_types.specs.Rows.{IsRowOf}
@@ -16,11 +19,13 @@ use Rattle.dw_c_types.specs.Targets.{target_by}
 use Rattle.dw_c_types.specs.declared.answer.CFrame.{CFrame}
 use Rattle.dw_c_types.specs.declared.row.CRow.{CRow}
 use Rattle.dw_c_types.specs.declared.row.CRule.{CRule}
-use Rattle.dw_c_types.specs.declared.status.TheConstants.{TOO_LONG, BAD_KIND, BAD_TARGET, NO_TABLE}
+use Rattle.dw_c_types.specs.declared.status.TheConstants.{BAD_KIND, BAD_TARGET, NO_ROOM, NO_TABLE, REFUSED, TOO_LONG}
 use Rattle.dwcheck_c.specs.LoadedModules.{eh_section_in}
 use Rattle.dwcheck_c.specs.WalkCursors.{IsStepBy, looked_up_by, registers_in, through_rows}
 use Rattle.dwcheck_c.specs.declared.cursor.CCursor.{CCursor}
 use Rattle.dwcheck_c.specs.declared.in_place.CHeader.{CHeader}
+use Rattle.dwcheck_c.specs.declared.in_place.NoAnswer.{NoAnswer}
+use Rattle.dwcheck_c.specs.declared.in_place.NoAnswer.TheVariants.{BadKind, BadTarget, NoTable, Refused, TooLong}
 use Rattle.dwcheck_c.specs.declared.module.CModule.{CModule}
 
 -- ---- what C passes
@@ -34,19 +39,25 @@ is_aarch64_by n = if n == 1 then Some false else if n == 2 then Some true else N
 abbrev pub section_in : Bool → Target → CModule → SectionInPlace
 section_in is_aarch64 target m = lying is_aarch64 (eh_section_in is_aarch64 m).bases target m.frame.now
 
--- C gives the section `s`, and a header with the search table `t`.
-pub record AreInPlace (m : CModule) (h : CHeader) (s : SectionInPlace) (t : Table) : Type 0 where
+-- The table of a header that C gives. An empty header is none: then there is no table.
+abbrev pub IsTableBy : Target → ℕ → List ℕ → Option Table → Type 0
+IsTableBy target address [] table = table ≡ None
+IsTableBy target address (byte ∷ bytes) table = (table ≡ table_in target address (byte ∷ bytes)) × IsSome table
+
+-- C gives the section `s`, and a header with the search table `table`, or no header.
+pub record AreInPlace (m : CModule) (h : CHeader) (s : SectionInPlace) (table : Option Table) : Type 0 where
   pub target : Target
   pub target_is : target_by m.order m.address_size ≡ Some target
   pub is_aarch64 : Bool
   pub kind_is : is_aarch64_by m.kind ≡ Some is_aarch64
   pub section : s ≡ section_in is_aarch64 target m
-  pub table : table_in target h.address h.bytes.now ≡ Some t
+  pub table_is : IsTableBy target h.address h.bytes.now table
 
--- There is no table: the header isn't as linkers write it.
+-- There is a header, but no table: it isn't as linkers write it.
 pub record LacksTable (m : CModule) (h : CHeader) : Type 0 where
   pub target : Target
   pub target_is : target_by m.order m.address_size ≡ Some target
+  pub given : 0 < length h.bytes.now
   pub none : table_in target h.address h.bytes.now ≡ None
 
 -- the status that says why nothing can be looked up with what C passes
@@ -58,24 +69,42 @@ IsUnusable m h status = ((status ≡ TOO_LONG) × (2 ^ 32 ≤ length m.frame.now
 
 -- ---- what is looked up
 
+-- What a look-up of an address gives: what is read where the table leads, or, without a table, where
+-- the first FDE is that covers the address.
+abbrev pub LooksUp : SectionInPlace → Option Table → ℕ → Result (Option EhFde) Fault → Type 0
+LooksUp s (Some t) a found = (entry : Option ℕ) × Finds t a entry × (fde_by_entry s t a entry ≡ found)
+LooksUp s None a found = (place : Result (Option ℕ) Fault) × Scans s a place × (fde_by_place s a place ≡ found)
+
 -- What a look-up of an address as loaded finds: an FDE that covers it, or none, or the first fault.
 pub record IsLookedUp (m : CModule) (h : CHeader) (address : ℕ) (found : Result (Option EhFde) Fault) : Type 0 where
   pub section : SectionInPlace
-  pub table : Table
+  pub table : Option Table
   pub are : AreInPlace m h section table
-  pub entry : Option ℕ
-  pub finds : Finds table (as_linked section.target m.load_address address) entry
-  pub is : fde_by_entry section table (as_linked section.target m.load_address address) entry ≡ found
+  pub is : LooksUp section table (as_linked section.target m.load_address address) found
+
+-- why a look-up of an address has no answer; `memory` says that there was no room for expressions
+abbrev pub IsNoRow : CModule → CHeader → ℕ → NoAnswer → Type 0
+IsNoRow m h address TooLong = 2 ^ 32 ≤ length m.frame.now
+IsNoRow m h address BadKind = is_aarch64_by m.kind ≡ None
+IsNoRow m h address BadTarget = target_by m.order m.address_size ≡ None
+IsNoRow m h address NoTable = LacksTable m h
+IsNoRow m h address (Refused fault) = (fault ≡ memory) ⊎ IsLookedUp m h address (Err fault)
+
+-- the status that C gets for this reason
+abbrev pub Says : NoAnswer → ℕ → Type 0
+Says TooLong result = result ≡ TOO_LONG
+Says BadKind result = result ≡ BAD_KIND
+Says BadTarget result = result ≡ BAD_TARGET
+Says NoTable result = result ≡ NO_TABLE
+Says (Refused fault) result = (result ≡ REFUSED) ⊎ ((result ≡ NO_ROOM) × (fault.kind ≡ Memory))
 
 -- a look-up of an address finds an FDE, and this is its row
 pub record HasRow (m : CModule) (h : CHeader) (address : ℕ) (target : Target) (e : EhFde) (row : Row) : Type 0 where
   pub section : SectionInPlace
-  pub table : Table
+  pub table : Option Table
   pub are : AreInPlace m h section table
   pub target_is : section.target ≡ target
-  pub entry : Option ℕ
-  pub finds : Finds table (as_linked section.target m.load_address address) entry
-  pub is : fde_by_entry section table (as_linked section.target m.load_address address) entry ≡ Ok (Some e)
+  pub is : LooksUp section table (as_linked section.target m.load_address address) (Ok (Some e))
   pub row_is : row_of_fde section.target section.bytes e (as_linked section.target m.load_address address) ≡ Some row
 
 -- ---- what C gets

@@ -1,21 +1,25 @@
-//! The C calls that look up in an `.eh_frame` section in place: the row of an address, and a step of
-//! a cursor.
+//! The C calls that look up in an `.eh_frame` section in place: the row of an address, and a step
+//! of a cursor.
 
-ghost use Rattle.std.specs.Prelude.{◌≡◌, ◌≢◌, ◌≤◌, ◌<◌, ◌^◌, ◌⊎◌, ℕ, Bool, IfErr, IfOk, IsSome, Ok, Err, None, Some, length};
-ghost use Rattle.dw_bytes.specs.declared.fault.Fault.{Fault};
+ghost use Rattle.std.specs.Prelude.{◌≡◌, ◌≢◌, ◌≤◌, ◌<◌, ◌^◌, ◌⊎◌, ℕ, IfErr, IfNone, IfOk, IfSome, MatchResult, None, Ok, Err, Some, length, option_map};
+ghost use Rattle.dw_bytes.specs.declared.fault.Fault.{Fault as Why};
+ghost use Rattle.dw_bytes.specs.declared.fault.FaultKind.TheVariants.{Memory};
+ghost use Rattle.dw_bytes.specs.Answers.{memory as out_of_memory};
 ghost use Rattle.dw_c_types.specs.Faults.{cfault_of};
 ghost use Rattle.dw_c_types.specs.Machine.{abi_in, memory_of};
 ghost use Rattle.dw_eh_frame.specs.Views.{eh_fde_of};
 ghost use Rattle.dw_in_place.specs.InPlace.{alone, row_of_fde};
+ghost use Rattle.dw_in_place.specs.SearchTables.{table_in};
 ghost use Rattle.dw_in_place.specs.Views.{section_of, table_of};
+ghost use Rattle.dw_rows.specs.RowLookups.{IsRowUnder};
 ghost use Rattle.dw_rows.specs.Section.{IsChecked};
-ghost use Rattle.dwcheck_c.specs.declared.in_place.CHeader.{CHeader};
-ghost use Rattle.dwcheck_c.specs.InPlaceLookUps.{AreInPlace, IsLookedUp, IsRowGiven, IsStepAt, IsStepIn, IsUnusable, LacksPlaceIn, is_aarch64_by};
-ghost use Rattle.dwcheck_c.specs.WalkCursors.{looked_up_by};
+ghost use Rattle.dwcheck_c.specs.InPlaceLookUps.{AreInPlace, HasRow, IsLookedUp, IsNoRow, IsRowGiven, IsStepIn, IsTableBy, IsUnusable, LacksPlaceIn, LooksUp, Says, is_aarch64_by, through_fde};
+ghost use Rattle.dw_unwind.specs.MissingPlaces.{LacksPlace};
+ghost use Rattle.dwcheck_c.specs.WalkCursors.{IsStepBy, looked_up_by, registers_in};
 
 use crate::cursor::{CALLER, CCursor, Stepped, step_by_copy, step_uncovered};
 use crate::module::{CModule, EH_FRAME, EH_FRAME_AARCH64};
-use dw_bytes::{FaultKind, Target};
+use dw_bytes::{Fault, FaultKind, Target};
 use dw_c_types::answer::CFrame;
 use dw_c_types::fault::{CFault, IN_FRAME, report};
 use dw_c_types::row::{CRow, CRule, write_row};
@@ -25,13 +29,16 @@ use dw_c_types::status::{
 };
 use dw_c_types::target::target;
 use dw_eh_frame::EhFde;
-use dw_in_place::{LookUpMemory, SearchTable, SectionInPlace, row_for_address_in};
+use dw_in_place::{
+    LookUpMemory, SearchTable, SectionInPlace, row_by_records_in, row_for_address_in,
+};
 use dw_process::FoundRow;
 use dw_rules::UnwindRow;
 use dw_unwind::{OneRow, as_linked};
 use std::alloc::Global;
 
-/// An `.eh_frame_hdr` section, whose search table leads to the FDE of an address.
+/// An `.eh_frame_hdr` section, whose search table leads to the FDE of an address. If it is empty,
+/// there is none.
 #[repr(C)]
 #[derive(Drop)]
 pub struct CHeader<'a> {
@@ -40,11 +47,34 @@ pub struct CHeader<'a> {
     pub address: u64,
 }
 
-/// A section in place, with the table that leads to its FDEs.
+/// A section in place, with the table that leads to its FDEs, if there is one.
 #[derive(Clone, Copy)]
-struct InPlace<'a> {
+struct InPlace<'a, 'h> {
     section: SectionInPlace<'a>,
-    table: SearchTable<'a>,
+    table: Option<SearchTable<'h>>,
+}
+
+/// The row of an address, with its FDE, and the target of the section.
+#[derive(Drop)]
+struct FoundInPlace<'p, 'a> {
+    target: Target,
+    row: UnwindRow<'p, 'a>,
+    fde: EhFde<'a>,
+}
+
+/// Why a look-up has no answer.
+#[derive(Clone, Copy)]
+pub enum NoAnswer {
+    /// The section has 2^32 bytes or more.
+    TooLong,
+    /// The section isn't `.eh_frame`.
+    BadKind,
+    /// There is no such target.
+    BadTarget,
+    /// The header isn't as linkers write it.
+    NoTable,
+    /// The FDE or its CIE is refused, or there was no room for their expressions.
+    Refused(Fault),
 }
 
 /// Whether the programs of a section of this kind are for aarch64; none if it isn't `.eh_frame`.
@@ -58,60 +88,121 @@ fn is_aarch64(kind: u32) -> Option<bool>
     }
 }
 
-/// The section and the table that C gives, or the status that says why there is none.
-fn in_place<'a>(module: &CModule<'a>, header: &CHeader<'a>) -> Result<InPlace<'a>, u32>
-    ensures placed { IfOk result (λ found. AreInPlace module.now header.now (section_of found.section)
-        (table_of found.table)) }
-    ensures unusable { IfErr result (IsUnusable module.now header.now) }
+/// The table of a header; none if the header is empty. An error if a header is there, but isn't as
+/// linkers write it.
+fn table_by<'h>(header: &CHeader<'h>, target: Target) -> Result<Option<SearchTable<'h>>, NoAnswer>
+    ensures table { IfOk result (λ table.
+        IsTableBy target header.now.address header.now.bytes.now (option_map table_of table)) }
+    ensures lacks { IfErr result (λ why. (why ≡ NoAnswer.NoTable) × (0 < length header.now.bytes.now)
+        × (table_in target header.now.address header.now.bytes.now ≡ None)) }
 {
-    if module.frame.len() >= 1 << 32 {
-        return Err(TOO_LONG);
+    if header.bytes.is_empty() {
+        return Ok(None);
     }
-    let Some(is_aarch64) = is_aarch64(module.kind) else {
-        return Err(BAD_KIND);
-    };
-    let Some(target) = target(module.order, module.address_size) else {
-        return Err(BAD_TARGET);
-    };
-    let Some(table) = SearchTable::read(header.bytes, target, header.address) else {
-        return Err(NO_TABLE);
-    };
-    Ok(InPlace {
-        section: SectionInPlace {
-            bytes: module.frame,
-            target,
-            bases: module.eh_section(is_aarch64).bases,
-            is_aarch64,
-        },
-        table,
-    })
+    match SearchTable::read(header.bytes, target, header.address) {
+        Some(table) => Ok(Some(table)),
+        None => Err(NoAnswer::NoTable),
+    }
 }
 
-/// The row of an FDE that was found in place, as a source of rows.
-fn rows_of_fde<'r>(
-    target: Target,
-    row: UnwindRow<'r, 'r>,
-    fde: &EhFde<'r>,
+/// The section and the table that C gives, or why nothing can be looked up.
+fn in_place<'a, 'h>(module: &CModule<'a>, header: &CHeader<'h>) -> Result<InPlace<'a, 'h>, NoAnswer>
+    ensures placed { IfOk result (λ place. AreInPlace module.now header.now (section_of place.section)
+        (option_map table_of place.table)) }
+    ensures why { IfErr result (λ why. (address : ℕ) → IsNoRow module.now header.now address why) }
+{
+    if module.frame.len() >= 1 << 32 {
+        return Err(NoAnswer::TooLong);
+    }
+    let Some(is_aarch64) = is_aarch64(module.kind) else {
+        return Err(NoAnswer::BadKind);
+    };
+    let Some(target) = target(module.order, module.address_size) else {
+        return Err(NoAnswer::BadTarget);
+    };
+    let table = table_by(header, target)?;
+    let section = SectionInPlace {
+        bytes: module.frame,
+        target,
+        bases: module.eh_section(is_aarch64).bases,
+        is_aarch64,
+    };
+    Ok(InPlace { section, table })
+}
+
+/// The row of an address as linked, and its FDE: by the table, or, if there is none, by going through
+/// the records.
+fn find_row<'p, 'a>(
+    place: &InPlace<'a, '_>,
     address: u64,
-    bytes: &[u8],
-) -> OneRow<'r>
-    requires checked { IsChecked (alone target bytes.now (eh_fde_of fde.now)) }
-    requires row { row_of_fde target bytes.now (eh_fde_of fde.now) address ≡ Some row }
-    ensures { result ≡ record {
-      target = target;
-      row = row.entry;
-      return_register = fde.now.cie.cie.return_address_register;
-    } }
+    memory: &'p mut LookUpMemory<'a>,
+) -> Result<Option<(UnwindRow<'p, 'a>, EhFde<'a>)>, Fault>
+    ensures fde { MatchResult result
+        (λ found. LooksUp (section_of place.now.section) (option_map table_of place.now.table) address
+        (Ok (option_map (λ f. eh_fde_of f.1) found)))
+        (λ fault. (fault ≡ out_of_memory) ⊎ LooksUp (section_of place.now.section)
+        (option_map table_of place.now.table) address (Err fault)) }
+    ensures row { IfOk result (λ found. IfSome found (λ f. row_of_fde place.now.section.target
+        place.now.section.bytes.now (eh_fde_of f.1) address ≡ Some f.0)) }
+    ensures checked { IfOk result (λ found. IfSome found (λ f. IsChecked
+        (alone place.now.section.target place.now.section.bytes.now (eh_fde_of f.1)))) }
+{
+    match &place.table {
+        Some(table) => row_for_address_in(&place.section, table, address, memory),
+        None => row_by_records_in(&place.section, address, memory),
+    }
+}
+
+/// Looks up `address`, an address as loaded, in the section of `module` by the table of `header`.
+fn look_up<'p, 'a>(
+    module: &CModule<'a>,
+    header: &CHeader<'_>,
+    address: u64,
+    memory: &'p mut LookUpMemory<'a>,
+) -> Result<Option<FoundInPlace<'p, 'a>>, NoAnswer>
+    ensures row { IfOk result (λ found. IfSome found (λ f.
+        HasRow module.now header.now address f.target (eh_fde_of f.fde) f.row)) }
+    ensures under { IfOk result (λ found. IfSome found (λ f. IsRowUnder f.target f.row)) }
+    ensures none { IfOk result (λ found. IfNone found
+        (IsLookedUp module.now header.now address (Ok None))) }
+    ensures why { IfErr result (IsNoRow module.now header.now address) }
 {
     dw_rows::laws::rows_have_good_expressions();
-    OneRow::new(target, row, fde.cie.cie.return_address_register)
+    let place = in_place(module, header)?;
+    let target = place.section.target;
+    let linked = as_linked(target, module.load_address, address);
+    match find_row(&place, linked, memory) {
+        Ok(Some((row, fde))) => Ok(Some(FoundInPlace { target, row, fde })),
+        Ok(None) => Ok(None),
+        Err(fault) => Err(NoAnswer::Refused(fault)),
+    }
+}
+
+/// The status that says why a look-up has no answer, and the fault, if it is one.
+fn no_answer(why: NoAnswer, fault: &mut CFault) -> u32
+    ensures says { Says why result }
+    ensures reported { result ≡ REFUSED → (first : Why) × (why ≡ NoAnswer.Refused first)
+        × (first.kind ≢ Memory) × (fault.new ≡ cfault_of IN_FRAME first) }
+    ensures unreported { result ≢ REFUSED → fault.new ≡ fault.old }
+{
+    match why {
+        NoAnswer::TooLong => TOO_LONG,
+        NoAnswer::BadKind => BAD_KIND,
+        NoAnswer::BadTarget => BAD_TARGET,
+        NoAnswer::NoTable => NO_TABLE,
+        NoAnswer::Refused(first) if first.kind == FaultKind::Memory => NO_ROOM,
+        NoAnswer::Refused(first) => {
+            *fault = report(IN_FRAME, first);
+            REFUSED
+        }
+    }
 }
 
 /// Looks up `address`, an address as loaded, in the section of `module` in place, by the table of
-/// `header`, and writes its row to `row`, and the rules of its registers to `rules`, as many as fit.
-/// `is_signal_frame` becomes 1 if the row's frames are those of signals, else 0. Nothing is
-/// allocated, and nothing is kept. `NO_ROOM` says that the programs of the FDE and its CIE have more
-/// expressions, or longer ones, than a look-up in place has room for.
+/// `header`, and writes its row to `row`, and the rules of its registers to `rules`, as many as
+/// fit. `is_signal_frame` becomes 1 if the row's frames are those of signals, else 0. Nothing is
+/// allocated, and nothing is kept. `NO_ROOM` says that the programs of the FDE and its CIE have
+/// more expressions, or longer ones, than a look-up in place has room for.
 #[unsafe(no_mangle)]
 pub extern "C" fn dwcheck_row_in(
     alloc: Global,
@@ -127,7 +218,7 @@ pub extern "C" fn dwcheck_row_in(
         is_signal_frame.new }
     ensures few { result ≡ DONE → row.new.count ≤ 128 }
     ensures none { result ≡ NONE → IsLookedUp module.now header.now address (Ok None) }
-    ensures refused { result ≡ REFUSED → (why : Fault) × IsLookedUp module.now header.now address (Err why)
+    ensures refused { result ≡ REFUSED → (why : Why) × IsLookedUp module.now header.now address (Err why)
         × (fault.new ≡ cfault_of IN_FRAME why) }
     ensures unusable { result ≢ DONE → result ≢ NONE → result ≢ REFUSED → result ≢ NO_ROOM
         → IsUnusable module.now header.now result }
@@ -135,99 +226,66 @@ pub extern "C" fn dwcheck_row_in(
         × (is_signal_frame.new ≡ is_signal_frame.old) }
     ensures unreported { result ≢ REFUSED → fault.new ≡ fault.old }
 {
-    let place = match in_place(module, header) {
-        Ok(place) => place,
-        Err(status) => return status,
-    };
-    let target = place.section.target;
-    let linked = as_linked(target, module.load_address, address);
     let mut memory = LookUpMemory::new(alloc);
-    match row_for_address_in(&place.section, &place.table, linked, &mut memory) {
-        Ok(Some((found, fde))) => {
+    match look_up(module, header, address, &mut memory) {
+        Ok(Some(found)) => {
+            *is_signal_frame = u32::from(found.fde.cie.augmentation.is_signal);
             let found = FoundRow {
                 id: 0,
                 cookie: module.cookie,
                 load_address: module.load_address,
-                target,
-                row: found,
-                return_register: fde.cie.cie.return_address_register,
+                target: found.target,
+                return_register: found.fde.cie.cie.return_address_register,
+                row: found.row,
             };
             write_row(&found, row, rules);
-            *is_signal_frame = u32::from(fde.cie.augmentation.is_signal);
             DONE
         }
         Ok(None) => NONE,
-        Err(why) if why.kind == FaultKind::Memory => NO_ROOM,
-        Err(why) => {
-            *fault = report(IN_FRAME, why);
-            REFUSED
-        }
+        Err(why) => no_answer(why, fault),
     }
 }
 
 /// Writes the frame that a cursor is at to `frame`, and moves the cursor to the frame's caller, by
-/// the row of `address`, the address that is looked up for the frame.
-fn step_at(
-    alloc: Global,
-    module: &CModule<'_>,
-    place: &InPlace<'_>,
+/// the row that was found for `address`, the address that is looked up for the frame.
+fn step_by_fde(
+    found: FoundInPlace<'_, '_>,
     address: u64,
     cursor: &mut CCursor,
     state: &CState<'_>,
     frame: &mut CFrame,
-    fault: &mut CFault,
 ) -> u32
-    requires goes_on { cursor.old.stage ≤ CALLER }
     requires at { looked_up_by cursor.old.stage cursor.old.address ≡ Some address }
-    ensures done { result ≡ DONE → (h : CHeader)
-        → AreInPlace module.now h (section_of place.now.section) (table_of place.now.table)
-        → IsStepAt module.now h (Some address) (abi_in state.now) (memory_of state.now)
-        state.now.signed_bits cursor.old cursor.new frame.new }
-    ensures lacks { result ≡ NO_PLACE → (h : CHeader)
-        → AreInPlace module.now h (section_of place.now.section) (table_of place.now.table)
-        → LacksPlaceIn module.now h address (abi_in state.now) (memory_of state.now) cursor.old }
-    ensures refused { result ≡ REFUSED → (h : CHeader)
-        → AreInPlace module.now h (section_of place.now.section) (table_of place.now.table)
-        → (why : Fault) × IsLookedUp module.now h address (Err why)
-        × (fault.new ≡ cfault_of IN_FRAME why) }
-    ensures codes { (result ≡ DONE) ⊎ (result ≡ NO_PLACE) ⊎ (result ≡ REFUSED) ⊎ (result ≡ NO_ROOM) }
+    requires under { IsRowUnder found.target found.row }
+    ensures done { result ≡ DONE → IsStepBy (through_fde found.entry.target
+        (eh_fde_of found.entry.fde) found.entry.row (abi_in state.now) (memory_of state.now) state.now.signed_bits) cursor.old cursor.new frame.new }
+    ensures lacks { result ≡ NO_PLACE → LacksPlace (through_fde found.entry.target
+        (eh_fde_of found.entry.fde) found.entry.row (abi_in state.now) (memory_of state.now) 0).callers (registers_in cursor.old)
+        (Some address) }
+    ensures codes { (result ≡ DONE) ⊎ (result ≡ NO_PLACE) }
     ensures unwritten { result ≢ DONE → (cursor.new ≡ cursor.old) × (frame.new ≡ frame.old) }
-    ensures unreported { result ≢ REFUSED → fault.new ≡ fault.old }
 {
-    let target = place.section.target;
-    let linked = as_linked(target, module.load_address, address);
-    let mut memory = LookUpMemory::new(alloc);
-    match row_for_address_in(&place.section, &place.table, linked, &mut memory) {
-        Ok(Some((row, fde))) => {
-            let rows = rows_of_fde(target, row, &fde, linked, place.section.bytes);
-            let is_signal = fde.cie.augmentation.is_signal;
-            match step_by_copy(
-                &rows,
-                is_signal,
-                state.kept,
-                state.pointer(),
-                state.signed_bits,
-                address,
-                cursor,
-                &state.memory(),
-                frame,
-            ) {
-                Stepped::Written => DONE,
-                Stepped::NoPlace => NO_PLACE,
-            }
-        }
-        Ok(None) => step_uncovered(cursor, frame),
-        Err(why) if why.kind == FaultKind::Memory => NO_ROOM,
-        Err(why) => {
-            *fault = report(IN_FRAME, why);
-            REFUSED
-        }
+    let FoundInPlace { target, row, fde } = found;
+    let rows = OneRow::new(target, row, fde.cie.cie.return_address_register);
+    match step_by_copy(
+        &rows,
+        fde.cie.augmentation.is_signal,
+        state.kept,
+        state.pointer(),
+        state.signed_bits,
+        address,
+        cursor,
+        &state.memory(),
+        frame,
+    ) {
+        Stepped::Written => DONE,
+        Stepped::NoPlace => NO_PLACE,
     }
 }
 
 /// Writes the frame that a cursor is at to `frame`, and moves the cursor to the frame's caller, as
-/// `dwcheck_cursor_step` does, but by a look-up in place, in the section of `module` by the table of
-/// `header`. Returns `NONE` if the cursor's walk has ended, and otherwise what `dwcheck_row_in`
+/// `dwcheck_cursor_step` does, but by a look-up in place, in the section of `module` by the table
+/// of `header`. Returns `NONE` if the cursor's walk has ended, and otherwise what `dwcheck_row_in`
 /// returns, or `NO_PLACE`. If no FDE covers the address, the walk ends.
 #[unsafe(no_mangle)]
 pub extern "C" fn dwcheck_step_in(
@@ -244,7 +302,7 @@ pub extern "C" fn dwcheck_step_in(
     ensures lacks { result ≡ NO_PLACE → (a : ℕ) × (looked_up_by cursor.old.stage cursor.old.address ≡ Some a)
         × LacksPlaceIn module.now header.now a (abi_in state.now) (memory_of state.now) cursor.old }
     ensures refused { result ≡ REFUSED → (a : ℕ) × (looked_up_by cursor.old.stage cursor.old.address ≡ Some a)
-        × ((why : Fault) × IsLookedUp module.now header.now a (Err why)
+        × ((why : Why) × IsLookedUp module.now header.now a (Err why)
         × (fault.new ≡ cfault_of IN_FRAME why)) }
     ensures none { result ≡ NONE → CALLER < cursor.old.stage }
     ensures some { result ≢ NONE → cursor.old.stage ≤ CALLER }
@@ -256,12 +314,13 @@ pub extern "C" fn dwcheck_step_in(
     if cursor.stage > CALLER {
         return NONE;
     }
-    let place = match in_place(module, header) {
-        Ok(place) => place,
-        Err(status) => return status,
-    };
     let Some(address) = cursor.looked_up() else {
         return step_uncovered(cursor, frame);
     };
-    step_at(alloc, module, &place, address, cursor, state, frame, fault)
+    let mut memory = LookUpMemory::new(alloc);
+    match look_up(module, header, address, &mut memory) {
+        Ok(Some(found)) => step_by_fde(found, address, cursor, state, frame),
+        Ok(None) => step_uncovered(cursor, frame),
+        Err(why) => no_answer(why, fault),
+    }
 }
