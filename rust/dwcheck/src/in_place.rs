@@ -51,7 +51,8 @@ pub struct EhFrameInPlace<'a> {
 
 impl<'a> EhFrameInPlace<'a> {
     /// A section that is loaded where it is linked, with the `.eh_frame_hdr` section whose first byte has
-    /// the address `header_address`, as linked. Nothing is read.
+    /// the address `header_address`, as linked. If `header` is empty, each look-up goes through the records of
+    /// the section. Nothing is read.
     pub fn new(
         section: &'a [u8],
         eh_frame: EhFrame,
