@@ -14,7 +14,7 @@ use dwcheck_types::target::Target;
 ///
 /// A look-up reads and checks only the FDE to which the table leads and its CIE, whatever other bytes
 /// the section has. Nothing is allocated and nothing is kept, but for the rules of a [`Row`]. It takes
-/// up to 48 KB of stack, and O(log n) time among n entries, plus what the two records take.
+/// up to 53 KB of stack, and O(log n) time among n entries, plus what the two records take.
 ///
 /// If a check accepts the section, and the table leads to all its FDEs, the rows are those of a
 /// [`Process`](crate::Process) to which it is added. A wrong table leads to no row, or to one of other
