@@ -91,14 +91,14 @@ impl Walker<'_, '_> {
     }
 
     fn by_row(&mut self, frame: &mut Frame, found: Found) -> Caller {
-        let Found { caller, is_signal_frame, is_signal_return } = found;
-        frame.cfa = caller.cfa.value();
+        let Found { cfa, return_address, registers, is_signal_frame, is_signal_return } = found;
+        frame.cfa = cfa;
         frame.is_signal_frame = is_signal_frame;
         frame.is_after_call &= !is_signal_return;
         if let Some(stop) = self.stop_at(frame) {
             return Caller::None(stop);
         }
-        let address = match caller.return_address {
+        let address = match return_address {
             Answer::Value(address) => address & !self.signed_bits,
             Answer::Undefined => return Caller::None(Stop::ReturnUndefined),
             Answer::DivisionByZero => return Caller::None(Stop::ReturnDivisionByZero),
@@ -109,7 +109,7 @@ impl Walker<'_, '_> {
             return Caller::None(Stop::NotExecutable(address));
         }
         let next = Frame { is_after_call: !is_signal_frame, ..Frame::caller(address, FoundBy::Row) };
-        Caller::Frame(next, caller.known())
+        Caller::Frame(next, registers)
     }
 
     fn by_guess(&mut self, frame: &mut Frame, guess: Option<Guess>) -> Caller {
