@@ -33,10 +33,10 @@
      meanwhile.
    - The stack is large enough. As measured on x86-64, dwcheck_backtrace and dwcheck_backtrace_cached take 1.7 KB,
      dwcheck_unwind 7.2 KB and dwcheck_cursor_step 1.6 KB; if a rule is an expression, 3.7, 7.6 and 3.6 KB; and the
-     first two take 18 KB if a register of 96 or more is known. dwcheck_process_add takes 50 KB, dwcheck_module_check
-     45 KB, dwcheck_check and dwcheck_report 40 KB, dwcheck_cursor_step_with 21 KB, dwcheck_evaluate 12 KB,
-     dwcheck_process_share 5 KB, and every other call less than 4 KB. A first call may take 3 KB more, in a program
-     with libdwcheck.a that isn't linked with -Wl,-z,now.
+     first two take 18 KB if a register of 96 or more is known. dwcheck_row_in and dwcheck_step_in take 53 KB,
+     dwcheck_process_add 50 KB, dwcheck_module_check 45 KB, dwcheck_check and dwcheck_report 40 KB,
+     dwcheck_cursor_step_with 21 KB, dwcheck_evaluate 12 KB, dwcheck_process_share 5 KB, and every other call less
+     than 4 KB. A first call may take 3 KB more, in a program with libdwcheck.a that isn't linked with -Wl,-z,now.
    - Fields called `reserved` are set to 0. A later version may give them a meaning.
 
    A call writes its results only if it returns DONE, and `fault` only if it returns REFUSED, unless its comment says
@@ -402,7 +402,7 @@ typedef struct dwcheck_header { const uint8_t *bytes; size_t length; uint64_t ad
 
 /* Writes the row that covers `address`, an address as loaded, without preparation: only the FDE to which the table
    leads and its CIE are read and checked, whatever other bytes the section has. No process is needed, nothing is
-   allocated, and nothing is kept, so the call may be made at any moment, also in a signal handler. It takes up to 48
+   allocated, and nothing is kept, so the call may be made at any moment, also in a signal handler. It takes up to 53
    KB of stack, and O(log n) time among n entries, plus what the two records take; without a table, time in proportion
    to the bytes before the FDE.
 

@@ -102,10 +102,10 @@ static void arrays_may_be_short(void) {
     IS(dwcheck_row_in(&module, &header, LOAD + 0x1003, &l.row, l.rules, 1, &l.is_signal_frame, &l.fault), DWCHECK_DONE);
     IS(l.row.count, 2); IS(l.rules[0].reg, 6); IS(l.rules[1].kind, 99);
     IS(dwcheck_row_in(&module, &header, LOAD + 0x1003, &l.row, NULL, 0, &l.is_signal_frame, &l.fault), DWCHECK_DONE); IS(l.row.count, 2);
-    IS(dwcheck_row_in(&module, &none, LOAD + 0x1003, &l.row, NULL, 0, &l.is_signal_frame, &l.fault), DWCHECK_NO_TABLE);
+    IS(dwcheck_row_in(&module, &none, LOAD + 0x1003, &l.row, NULL, 0, &l.is_signal_frame, &l.fault), DWCHECK_DONE); IS(l.row.count, 2);
     module.frame = NULL, module.frame_length = 0; /* the table leads past its end */
     IS(dwcheck_row_in(&module, &header, LOAD + 0x1003, &l.row, NULL, 0, &l.is_signal_frame, &l.fault), DWCHECK_NONE);
-    IS(dwcheck_row_in(&module, &none, LOAD + 0x1003, &l.row, NULL, 0, &l.is_signal_frame, &l.fault), DWCHECK_NO_TABLE);
+    IS(dwcheck_row_in(&module, &none, LOAD + 0x1003, &l.row, NULL, 0, &l.is_signal_frame, &l.fault), DWCHECK_NONE);
 }
 
 /* Looks up where nothing is written: the status must be `status`. */
@@ -202,6 +202,16 @@ static void headers_that_lie(void) {
     }
 }
 
+/* The status of a look-up in the first bytes of X86, by the first bytes of its header; or by going through the
+   records, which begin at 0, 32, 72, 76 and 100, if there is no header. */
+static uint32_t status_in(size_t length, size_t header_length, size_t table_length, uint64_t address) {
+    size_t at = address < 0x1009 ? 32 : 100, end = address < 0x1009 ? 72 : 132; /* the record of the FDE */
+    if (header_length > 0 && header_length < table_length) return DWCHECK_NO_TABLE;
+    if (length >= end) return DWCHECK_DONE;
+    if (header_length > 0) return length > at ? DWCHECK_REFUSED : DWCHECK_NONE;
+    return length == 0 || length == 32 || length == 72 || length == 76 || length == 100 ? DWCHECK_NONE : DWCHECK_REFUSED;
+}
+
 /* Looks up addresses in a section and by a header of each length, whose ends are followed by memory that can't
    be read. */
 static void nothing_is_read_past_the_ends(void) {
@@ -212,23 +222,16 @@ static void nothing_is_read_past_the_ends(void) {
         if (pages == MAP_FAILED || mprotect(pages + 4096, 4096, PROT_NONE)) abort();
         ends[i] = pages + 4096;
     }
-    const size_t section_length = whole.section.module.frame_length, table_length = whole.table.length;
-    for (size_t length = 0; length <= section_length; length++)
-        for (size_t header_length = length < section_length ? table_length : 0; header_length <= table_length; header_length++) {
+    for (size_t length = 0; length <= whole.section.module.frame_length; length++)
+        for (size_t header_length = 0; header_length <= whole.table.length; header_length++) {
             dwcheck_module module = module_at(&whole.section);
             dwcheck_header header = {ends[1] - header_length, header_length, HEADER_ADDRESS};
             module.frame = ends[0] - length, module.frame_length = length;
             memcpy(ends[0] - length, whole.section.bytes, length);
             memcpy(ends[1] - header_length, whole.table.bytes, header_length);
-            for (uint64_t address = 0xfff; address < 0x100e; address++) {
-                uint32_t status = dwcheck_row_in(&module, &header, LOAD + address, &whole.row, whole.rules, 4, &whole.is_signal_frame,
-                                                 &whole.fault);
-                uint64_t end = address < 0x1009 ? 72 : 132; /* of the record of the FDE */
-                if (header_length < table_length) IS(status, DWCHECK_NO_TABLE);
-                else if (address < 0x1000 || address > 0x100b) IS(status == DWCHECK_NONE || status == DWCHECK_REFUSED, 1);
-                else if (length >= end) IS(status, DWCHECK_DONE);
-                else IS(status, length > (end == 72 ? 32 : 100) ? DWCHECK_REFUSED : DWCHECK_NONE);
-            }
+            for (uint64_t address = 0x1000; address < 0x100c; address++)
+                IS(dwcheck_row_in(&module, &header, LOAD + address, &whole.row, whole.rules, 4, &whole.is_signal_frame, &whole.fault),
+                   status_in(length, header_length, whole.table.length, address));
         }
 }
 
@@ -247,13 +250,15 @@ static int compare_at(const dwcheck_process *process, struct lookup *l, uint64_t
     return 1;
 }
 
-/* Compares each row of each FDE, and the addresses around it. Returns the number of rows. */
+/* Compares each row of each FDE, and the addresses around it; and some without the header. Returns the number of
+   rows, or -1 if the section is refused. */
 static long compare_all(const dwcheck_module *module, const dwcheck_header *header) {
     static struct lookup l;
     dwcheck_process process = DWCHECK_CLOSED;
     dwcheck_record record;
     uint64_t id;
-    long rows = 0;
+    long rows = 0, fdes = 0;
+    const dwcheck_header none = {NULL, 0, 0};
     if (dwcheck_process_add(&process, module, &id, &l.fault) != DWCHECK_DONE) return -1;
     for (uint64_t at = 0; dwcheck_record_at(module, at, &record, &l.fault) == DWCHECK_DONE; at = record.next) {
         if (record.kind != DWCHECK_RECORD_FDE) continue;
@@ -265,6 +270,9 @@ static long compare_all(const dwcheck_module *module, const dwcheck_header *head
             address = next, rows++;
         }
         compare_at(&process, &l, end, module, header);
+        if (fdes++ % 16) continue; /* to go through the records takes long */
+        compare_at(&process, &l, module->load_address + record.start, module, &none);
+        compare_at(&process, &l, end, module, &none);
     }
     dwcheck_process_close(&process);
     return rows;

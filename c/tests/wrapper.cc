@@ -114,6 +114,7 @@ static void check_in_place(const std::uint8_t *eh, std::size_t length) {
     CHECK(dwcheck_cursor_init(&cursor, LOAD + 0x1009, &stopped.state, 1, &fault) == DWCHECK_DONE);
     const auto frame = section.step(cursor, stopped.state);
     CHECK(frame && frame->address == LOAD + 0x1009 && frame->cfa.value == STACK + 8 && cursor.stage == DWCHECK_CURSOR_CALLER);
+    CHECK(dwcheck_cursor_init(&cursor, LOAD + 0x1009, &stopped.state, 1, &fault) == DWCHECK_DONE);
     header.length--;
     CHECK(dwcheck::in_place(dwcheck::eh_module_of(eh, length, 0x2000, LOAD), header).step(cursor, stopped.state).why().status ==
           DWCHECK_NO_TABLE);

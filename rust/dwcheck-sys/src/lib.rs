@@ -376,7 +376,8 @@ pub struct Reader {
 }
 
 /// The .eh_frame_hdr section of a module, which begins at `address` as linked. Its search table leads
-/// from an address to the record of an FDE.
+/// from an address to the record of an FDE. If `length` is 0, there is none, and the section's records
+/// are gone through.
 #[repr(C)]
 pub struct Header {
     pub bytes: *const u8,

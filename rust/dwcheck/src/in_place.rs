@@ -14,7 +14,7 @@ use dwcheck_types::target::Target;
 ///
 /// A look-up reads and checks only the FDE to which the table leads and its CIE, whatever other bytes
 /// the section has. Nothing is allocated and nothing is kept, but for the rules of a [`Row`]. It takes
-/// up to 48 KB of stack, and O(log n) time among n entries, plus what the two records take.
+/// up to 53 KB of stack, and O(log n) time among n entries, plus what the two records take.
 ///
 /// If a check accepts the section, and the table leads to all its FDEs, the rows are those of a
 /// [`Process`](crate::Process) to which it is added. A wrong table leads to no row, or to one of other
@@ -51,7 +51,8 @@ pub struct EhFrameInPlace<'a> {
 
 impl<'a> EhFrameInPlace<'a> {
     /// A section that is loaded where it is linked, with the `.eh_frame_hdr` section whose first byte has
-    /// the address `header_address`, as linked. Nothing is read.
+    /// the address `header_address`, as linked. If `header` is empty, each look-up goes through the records of
+    /// the section. Nothing is read.
     pub fn new(
         section: &'a [u8],
         eh_frame: EhFrame,

@@ -1,7 +1,7 @@
 //! Holds the sorted table of `.eh_frame_hdr` against the section that it is for.
 //!
-//! Unwinders find FDEs by this table, so an FDE that it doesn't lead to isn't found while a program runs. Nothing
-//! else here uses the table.
+//! Unwinders find FDEs by this table, so an FDE that it doesn't lead to isn't found while a program runs. Here only
+//! `stack` and `vars` use it, for their first look-ups in a file.
 
 use crate::cfi::frames::{Frames, Kind, Name};
 use crate::elf::program::Program;

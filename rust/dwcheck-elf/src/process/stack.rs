@@ -8,6 +8,7 @@
 mod abort;
 mod both_ends;
 pub(crate) mod frame_names;
+mod in_place;
 mod instruction;
 mod json;
 mod listed;

@@ -1,11 +1,13 @@
-//! The unwind tables of a process's modules. An FDE is checked and compiled when
-//! a look-up first needs it.
+//! The unwind tables of a process's modules. The first rows of a file are looked up in place, where its
+//! `.eh_frame_hdr` leads to them. For others all records of its sections are read, and an FDE is checked and compiled
+//! when a look-up first needs it.
 
+use super::in_place::InPlace;
 use crate::cfi::section_table::{add_fde, SectionTable};
 use crate::elf::program::Program;
 use crate::process::core_file::{Image, Module};
 use crate::process::without_row::address_of_sigpanic;
-use dwcheck::{Caller, Error, Process, State};
+use dwcheck::{Answer, Error, Process, Registers, State};
 use dwcheck_types::target::Target;
 use std::collections::{HashMap, HashSet};
 use std::ops::Range;
@@ -27,11 +29,14 @@ pub(super) struct Tables<'a> {
     problems: Vec<(PathBuf, String)>,
 }
 
-/// The frame sections of a file.
+/// The frame sections of a file, none of which is there if the file can't be read.
 #[derive(Default)]
 struct FileTables<'a> {
-    /// `.debug_frame` first.
-    sections: Vec<SectionTable<'a>>,
+    program: Option<Program<'a>>,
+    /// Where rows are looked up first.
+    in_place: Option<InPlace<'a>>,
+    /// `.debug_frame` first. `None` if no look-up has needed them.
+    sections: Option<Vec<SectionTable<'a>>>,
     /// The address of Go's function [`address_of_sigpanic`].
     sigpanic: Option<u64>,
 }
@@ -66,8 +71,12 @@ struct Compiled {
 
 /// The caller of a frame that a row was found for.
 pub(super) struct Found {
-    /// The caller.
-    pub caller: Caller,
+    /// The frame's CFA, if it is known.
+    pub cfa: Option<u64>,
+    /// Where the caller continues.
+    pub return_address: Answer,
+    /// The registers of the caller that are known.
+    pub registers: Registers,
     /// Whether the frame is a signal frame, whose caller was interrupted and didn't call.
     pub is_signal_frame: bool,
     /// Whether it is a signal frame to which a handler returns, which didn't call either.
@@ -133,53 +142,88 @@ impl<'a> Tables<'a> {
     /// The caller of the frame that is looked up at an address. `None` if no FDE that can be used
     /// covers the address.
     pub fn caller(&mut self, address: u64, state: &State<'_>) -> Result<Option<Found>, Error> {
-        if self.process.module_at(address).is_none() {
-            self.compile(address)?;
+        if self.compiled_at(address).is_none() {
+            let found = self.in_place_at(address).and_then(|(in_place, linked)| in_place.caller(linked, state));
+            if found.is_some() {
+                return Ok(found);
+            }
         }
-        let compiled = self.compiled_at(address);
-        let caller = self.process.unwind(address, state)?;
-        Ok(compiled.zip(caller).map(|(compiled, caller)| Found {
-            caller,
-            is_signal_frame: compiled.is_signal_frame,
-            is_signal_return: compiled.is_signal_return,
-        }))
+        self.caller_by_table(address, state)
     }
 
     /// The same, but only if an FDE begins at the address.
     pub fn caller_at_begin(&mut self, address: u64, state: &State<'_>) -> Result<Option<Found>, Error> {
-        let caller = self.caller(address, state)?;
+        let caller = self.caller_by_table(address, state)?;
         Ok(caller.filter(|_| self.compiled_at(address).map_or(false, |compiled| compiled.begin == address)))
     }
 
     /// Whether an FDE that can be used covers an address.
     pub fn covers(&mut self, address: u64) -> Result<bool, Error> {
-        if self.process.module_at(address).is_none() {
-            self.compile(address)?;
+        if self.in_place_at(address).map_or(false, |(in_place, linked)| in_place.covers(linked)) {
+            return Ok(true);
         }
+        self.compile(address)?;
         Ok(self.compiled_at(address).is_some())
+    }
+
+    /// The caller by a compiled FDE.
+    fn caller_by_table(&mut self, address: u64, state: &State<'_>) -> Result<Option<Found>, Error> {
+        self.compile(address)?;
+        let compiled = self.compiled_at(address);
+        let caller = self.process.unwind(address, state)?;
+        Ok(compiled.zip(caller).map(|(compiled, caller)| Found {
+            cfa: caller.cfa.value(),
+            return_address: caller.return_address,
+            registers: caller.known(),
+            is_signal_frame: compiled.is_signal_frame,
+            is_signal_return: compiled.is_signal_return,
+        }))
     }
 
     fn compiled_at(&self, address: u64) -> Option<&Compiled> {
         self.process.module_at(address).and_then(|module| self.compiled.get(module.cookie as usize))
     }
 
-    /// Checks and compiles the FDE that covers an address, if there is one that can be used.
+    /// What the file at an address has for look-ups in place, and the address as linked.
+    fn in_place_at(&mut self, address: u64) -> Option<(&mut InPlace<'a>, u64)> {
+        let wanted = self.wanted(address)?;
+        Some((self.file_of(&wanted).in_place.as_mut()?, wanted.linked))
+    }
+
+    /// An address that is one of a module's code.
+    fn wanted(&self, address: u64) -> Option<Wanted> {
+        let code = self.code_at(address)?.clone();
+        let module = &self.modules[code.module];
+        let linked = self.target.wrap(address.wrapping_sub(module.bias));
+        Some(Wanted { address, linked, file: file_key(module), code })
+    }
+
+    /// The file of an address, which is opened if nothing has needed it before.
+    fn file_of(&mut self, wanted: &Wanted) -> &mut FileTables<'a> {
+        let module = &self.modules[wanted.code.module];
+        let problems = &mut self.problems;
+        self.files.entry(wanted.file).or_insert_with(|| match Program::read(module.image.bytes()) {
+            Ok(program) => FileTables::of(program),
+            Err(error) => {
+                problems.push((module.path.clone(), error.to_string()));
+                FileTables::default()
+            }
+        })
+    }
+
+    /// Checks and compiles the FDE that covers an address, if that wasn't done before, and if there is one that can
+    /// be used.
     fn compile(&mut self, address: u64) -> Result<(), Error> {
-        let code = match self.code_at(address) {
-            Some(code) => code.clone(),
+        if self.process.module_at(address).is_some() {
+            return Ok(());
+        }
+        let wanted = match self.wanted(address) {
+            Some(wanted) => wanted,
             None => return Ok(()),
         };
-        let module = &self.modules[code.module];
-        let file = file_key(module);
-        let linked = self.target.wrap(address.wrapping_sub(module.bias));
-        let problems = &mut self.problems;
-        let tables = self.files.entry(file).or_insert_with(|| {
-            let (tables, unread) = read_frame_sections(module);
-            problems.extend(unread.into_iter().map(|problem| (module.path.clone(), problem)));
-            tables
-        });
-        let count = tables.sections.len();
-        let wanted = Wanted { address, linked, file, code };
+        let (count, unread) = self.file_of(&wanted).read_sections();
+        let path = &self.modules[wanted.code.module].path;
+        self.problems.extend(unread.into_iter().map(|problem| (path.clone(), problem)));
         for section in 0..count {
             if self.compile_in(section, &wanted)? {
                 break;
@@ -192,8 +236,11 @@ impl<'a> Tables<'a> {
     /// added.
     fn compile_in(&mut self, section: usize, wanted: &Wanted) -> Result<bool, Error> {
         let module = &self.modules[wanted.code.module];
-        let FileTables { sections, sigpanic } = &self.files[&wanted.file];
-        let table = &sections[section];
+        let FileTables { sections, sigpanic, .. } = &self.files[&wanted.file];
+        let table = match sections.as_ref().and_then(|sections| sections.get(section)) {
+            Some(table) => table,
+            None => return Ok(false),
+        };
         let piece = match table.find(wanted.linked) {
             Some(piece) if !self.refused.contains(&(wanted.file, section, piece.fde)) => piece,
             _ => return Ok(false),
@@ -225,22 +272,32 @@ impl<'a> Tables<'a> {
     }
 }
 
+impl<'a> FileTables<'a> {
+    fn of(program: Program<'a>) -> Self {
+        let sigpanic = address_of_sigpanic(&program);
+        // Which frames are signal frames doesn't depend on `.eh_frame` alone then.
+        let in_place = if sigpanic.is_none() { InPlace::of(&program) } else { None };
+        FileTables { program: Some(program), in_place, sections: None, sigpanic }
+    }
+
+    /// Reads all records of the frame sections, if that wasn't done before. Returns the number of sections, and which
+    /// can't be read, the first time.
+    fn read_sections(&mut self) -> (usize, Vec<String>) {
+        let (mut problems, program) = (Vec::new(), &self.program);
+        let sections = self.sections.get_or_insert_with(|| {
+            let (sections, unread) = program.as_ref().map(SectionTable::all).unwrap_or_default();
+            problems = unread;
+            sections
+        });
+        (sections.len(), problems)
+    }
+}
+
 /// What tells the file of a module from others.
 pub(super) fn file_key(module: &Module<'_>) -> FileKey {
     match module.image {
         Image::File(place, _) => (0, place),
         Image::Program(_) => (1, 0),
         Image::Vdso(_) => (2, 0),
-    }
-}
-
-/// Reads the frame sections of a module, and says which can't be used.
-fn read_frame_sections<'a>(module: &Module<'a>) -> (FileTables<'a>, Vec<String>) {
-    match Program::read(module.image.bytes()) {
-        Ok(program) => {
-            let (sections, problems) = SectionTable::all(&program);
-            (FileTables { sections, sigpanic: address_of_sigpanic(&program) }, problems)
-        }
-        Err(error) => (FileTables::default(), vec![error.to_string()]),
     }
 }

@@ -95,31 +95,30 @@ impl Walker<'_, '_> {
     }
 
     fn by_row(&mut self, frame: &mut Frame, found: Found) -> Caller {
-        let Found { caller, is_signal_frame, is_signal_return } = found;
-        frame.cfa = caller.cfa.value();
+        let Found { cfa, return_address, registers, is_signal_frame, is_signal_return } = found;
+        frame.cfa = cfa;
         frame.is_signal_frame = is_signal_frame;
         frame.is_after_call &= !is_signal_return;
         if let Some(stop) = self.stop_at(frame) {
             return Caller::None(stop);
         }
-        let address = match caller.return_address {
+        let address = match return_address {
             Answer::Value(address) => address & !self.signed_bits,
             Answer::Undefined => return Caller::None(Stop::ReturnUndefined),
             Answer::DivisionByZero => return Caller::None(Stop::ReturnDivisionByZero),
             _ => return Caller::None(Stop::ReturnUnreadable),
         };
-        let known = caller.known();
         // A signal may have interrupted anything, but a call is only in code.
         if !is_signal_frame && !self.stacks.is_in_code(address) {
             if !self.stacks.may_be_code(address) {
                 return Caller::None(Stop::NotExecutable(address));
             }
-            if (Guesser { view: self.stacks, registers: &known }).by_chain().is_none() {
+            if (Guesser { view: self.stacks, registers: &registers }).by_chain().is_none() {
                 return Caller::None(Stop::NotKnown(address));
             }
         }
         let next = Frame { is_after_call: !is_signal_frame, ..Frame::caller(address, FoundBy::Row) };
-        Caller::Frame(next, known)
+        Caller::Frame(next, registers)
     }
 
     fn by_symbol_row(&mut self, frame: &mut Frame, found: SymbolCaller) -> Caller {
