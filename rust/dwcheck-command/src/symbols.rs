@@ -77,8 +77,9 @@ fn debug_information<'f>(
     });
     let separate = separate.and_then(|(file, bytes)| Some((file, Program::read(bytes).ok()?)));
     let shared = match &separate {
-        Some((file, separate)) if !program.has_section(".debug_info") => files.shared(file, separate),
-        _ => files.shared(&whole, program),
+        _ if program.has_section(".debug_info") => files.shared(&whole, program),
+        Some((file, separate)) => files.shared(file, separate),
+        None => Ok(None),
     };
     let shared = shared.unwrap_or_else(|why| {
         unused.push(why.to_string());

@@ -36,6 +36,7 @@ mod same_frames;
 mod sframe;
 mod stacks;
 mod surveys;
+mod symbols;
 #[cfg(all(target_os = "linux", target_arch = "x86_64"))]
 mod trace_finds;
 #[cfg(all(target_os = "linux", target_arch = "x86_64"))]

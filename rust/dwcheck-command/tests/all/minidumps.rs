@@ -41,7 +41,7 @@ fn functions(out: &str) -> Vec<String> {
 }
 
 /// What LLDB showed of a kept minidump: the address and the function of each frame.
-fn by_lldb(name: &str) -> Vec<(u64, String)> {
+pub fn by_lldb(name: &str) -> Vec<(u64, String)> {
     let shown = std::fs::read_to_string(kept(&format!("{}.lldb.txt", name))).unwrap();
     let frame = |line: &str| {
         let (_, rest) = line.split_once(": 0x")?;
@@ -52,7 +52,7 @@ fn by_lldb(name: &str) -> Vec<(u64, String)> {
     shown.lines().filter(|line| line.contains("frame #")).map(|line| frame(line).unwrap()).collect()
 }
 
-fn shown(ran: &Ran) -> Vec<(u64, String)> {
+pub fn shown(ran: &Ran) -> Vec<(u64, String)> {
     let all = frames(&ran.out);
     let addresses = addresses(&all).into_iter().map(crate::common::hex);
     addresses
