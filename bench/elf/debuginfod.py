@@ -114,12 +114,14 @@ class Bench:
 
     def stack(self, urls, *words, cache=None):
         begin = time.time()
+        # Lines of the C library would take longer than what is measured.
+        words = words or ["--no-inline", "--no-source"]
         ran = subprocess.run([self.tool, "stack", *words, "core"], cwd=self.folder, capture_output=True, text=True,
                              env=self.environment(urls, cache or self.cache()), timeout=300)
         return ran.stdout, ran.stderr, time.time() - begin
 
     def check(self, what, holds, *shown):
-        print(f"{'ok' if holds else 'FAILED'} {what}")
+        print(f"{'ok' if holds else 'FAILED'} {what}", flush=True)
         if not holds:
             self.failed += 1
             print(*shown, sep="\n")
@@ -145,7 +147,7 @@ def start_debuginfod(folder):
 
 def judge_good(bench, folder, url, expected):
     cache = bench.cache()
-    found, why, _ = bench.stack(url, cache=cache)
+    found, why, _ = bench.stack(url, "--limit", "100", cache=cache)
     own = [line for line in expected.splitlines() if "/program)" in line]
     names = lambda text: [re.sub(r" \(.*/", " (", line) for line in text.splitlines() if "/program)" in line]
     bench.check("the frames are those with the program", len(own) > 2 and names(found) == names(expected), expected, found, why)
@@ -156,7 +158,7 @@ def judge_good(bench, folder, url, expected):
     bench.check("debuginfod-find finds what was fetched", shared == [0, 0], shared)
     other = bench.cache()
     find("executable", url, other), find("debuginfo", url, other)
-    found, why, _ = bench.stack("http://127.0.0.1:1", cache=other)
+    found, why, _ = bench.stack("http://127.0.0.1:1", "--limit", "100", cache=other)
     bench.check("what debuginfod-find has fetched is found", names(found) == names(expected), found, why)
 
 
@@ -166,14 +168,14 @@ def judge_bad(bench, folder, good):
         out, why, took = bench.stack(server.url)
         bench.check(f"a {name} server takes {took:.1f} s and is asked {len(server.asked)} times", took < longest and "not asked again" in why, out, why)
         out, why, took = bench.stack(f"{server.url} {good}")
-        bench.check(f"a {name} server before a good one", " outer+" in out and took < longest + 3, took, out, why)
+        bench.check(f"a {name} server before a good one", " outer" in out and took < longest + 3, took, out, why)
     out, why, took = bench.stack(down)
     bench.check("a server that is down takes no time", took < 1 and "not asked again" in why, took, why)
     liar = Server(lies(folder / "other"))
     out, why, took = bench.stack(liar.url)
-    bench.check("another file isn't used", liar.asked and " outer+" not in out and "build id" in why, out, why)
+    bench.check("another file isn't used", liar.asked and " outer" not in out and "build id" in why, out, why)
     out, why, took = bench.stack(f"{Server(missing).url} {good}")
-    bench.check("what one server hasn't, another one has", " outer+" in out, out, why)
+    bench.check("what one server hasn't, another one has", " outer" in out, out, why)
 
 
 def judge_off(bench):
@@ -189,7 +191,7 @@ def judge_off(bench):
     bench.check("the vDSO is asked of no server", asked and id_of_vdso not in asked and vdso is None, asked)
     silent_server = Server(silent)
     environment = bench.environment(silent_server.url, bench.cache())
-    process = subprocess.Popen([bench.tool, "stack", "core"], cwd=bench.folder, env=environment, stdout=subprocess.PIPE, stderr=subprocess.PIPE, text=True)
+    process = subprocess.Popen([bench.tool, "stack", "--no-inline", "--no-source", "core"], cwd=bench.folder, env=environment, stdout=subprocess.PIPE, stderr=subprocess.PIPE, text=True)
     time.sleep(1)
     begin = time.time()
     process.send_signal(signal.SIGINT)
