@@ -87,7 +87,8 @@ def frames(text):
 def plain(place):
     """What LLDB prints of a frame, without the values of parameters, columns and options."""
     place = re.sub(r"\s\[(opt|inlined|artificial)\]|:\d+(?=$| )", lambda match: "" if "[" in match[0] else match[0], place)
-    name = re.split(r"[(\[]| at | \+ ", place)[0].strip()
+    # Symbols have what the compiler adds for parts and copies of a function, and debug information doesn't.
+    name = re.sub(r"\.(cold|part|isra|constprop)\b[.\d]*", "", re.split(r"[(\[]| at | \+ ", place)[0].strip())
     line = re.search(r" at ([^ :]+:\d+)", place)
     return name, line[1] if line else ""
 

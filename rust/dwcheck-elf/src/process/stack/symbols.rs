@@ -97,10 +97,10 @@ impl<'a> Stacks<'a> {
                     value.into_iter().for_each(|cfa| caller.set(abi.stack_pointer, cfa));
                 }
                 Variable::ReturnAddress => return_address = value,
-                Variable::Register(number) => match value {
-                    Some(value) => caller.set(number, value),
-                    None => drop(caller.remove(number)),
-                },
+                Variable::Register(number) => {
+                    caller.remove(number);
+                    value.into_iter().for_each(|value| caller.set(number, value));
+                }
             }
         }
         return_address.into_iter().for_each(|address| caller.set(abi.program_counter, address));
