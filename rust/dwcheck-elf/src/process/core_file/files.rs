@@ -139,8 +139,11 @@ impl Files {
             let id = file.build_id.clone();
             let build_id = id.as_deref().map(BuildId::Whole);
             let wanted = Wanted { name: &file.path, build_id, target: core.target(), is_vdso: file.is_vdso };
-            if let Some((_, bytes)) = wanted.build_id.and_then(|_| finder.find(&wanted).ok()) {
-                (file.bytes, file.image) = (Ok(bytes), None);
+            match wanted.build_id.map(|_| finder.find(&wanted)) {
+                Some(Ok((_, bytes))) => (file.bytes, file.image) = (Ok(bytes), None),
+                // Who asks servers wants to know that one has sent another file.
+                Some(Err(error @ FileError::OtherBuild(..))) if search.fetcher.is_on() => file.bytes = Err(error),
+                _ => {}
             }
         }
     }
