@@ -9,8 +9,8 @@ back whatever happens. Other programs that crash meanwhile are reported too, and
 `compare` has small programs crash in several ways, without address space randomization, once with the handler and once
 with a core file of the kernel, and compares the frames of all threads by the handler with those of `stack CORE`, and those of
 the first thread with gdb's. `time` has a program with N threads (1,000) crash that has mapped N GB (8) and written to some
-of it (1,000 MB), and prints for how long the handler took it, how long its exit was held up, and the most memory that the
-handler took. `many` has N processes (100) crash at once, and counts their reports. This needs gcc and gdb.
+of it (1,000 MB), and prints how long the handler ran, how much of a processor and of memory it took, and how long the crash
+took, with the handler and without. `many` has N processes (100) crash at once, and counts their reports. This needs gcc and gdb.
 """
 import argparse
 import contextlib
@@ -94,7 +94,8 @@ begun = time.monotonic()
 status = subprocess.run(WORDS + sys.argv[1:]).returncode
 took = time.monotonic() - begun
 with open(sys.argv[0] + ".log", "a") as file:
-    print(status, took, resource.getrusage(resource.RUSAGE_CHILDREN).ru_maxrss, file=file)
+    used = resource.getrusage(resource.RUSAGE_CHILDREN)
+    print(status, took, used.ru_utime + used.ru_stime, used.ru_maxrss, file=file)
 """
 
 
@@ -182,8 +183,9 @@ def measure(program, folder, words):
         took = crash(arguments)
     report = report_of(folder)
     runs = [line.split() for line in (folder / "measure.log").read_text().splitlines()]
-    status, handler, memory = max(runs, key=lambda run: float(run[1]))
-    print(f"threads {len(frames(report))} report {len(report)} bytes; status {status}; handler {float(handler):.3f} s; memory "
+    status, handler, processor, memory = max(runs, key=lambda run: float(run[1]))
+    print(f"threads {len(frames(report))} report {len(report)} bytes; status {status}; handler {float(handler):.3f} s, of a processor "
+          f"{float(processor):.3f} s; memory "
           f"{int(memory) / 1024:.1f} MB; the process {took:.3f} s, with a handler that does nothing {alone:.3f} s")
 
 

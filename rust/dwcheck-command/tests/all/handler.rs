@@ -162,7 +162,7 @@ fn streams_that_end_too_early() {
     let of_core: Value = serde_json::from_str(&dwcheck_elf(&folder, "stack --json --no-source core").out).unwrap();
     let (status, of_whole) = report(whole.len());
     assert_eq!((status, &of_whole["threads"]), (0, &of_core["threads"]));
-    for size in (0..notes_end).step_by(notes_end / 40).chain([notes_end, notes_end + 5000]) {
+    for size in (0..notes_end).step_by(notes_end / 16).chain([notes_end, notes_end + 5000]) {
         let (status, value) = report(size);
         let count = value["threads"].as_array().unwrap().len();
         assert!(status == 0 || status == 3 && count == 0, "{}: {}", size, value);
