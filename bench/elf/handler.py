@@ -2,7 +2,7 @@
 """Has the kernel pass crashes to `dwcheck-elf stack --handler`, as root: core_pattern is changed for some seconds, and put
 back whatever happens. Other programs that crash meanwhile are reported too, and leave no core file.
 
-    bench/elf/handler.py DWCHECK_ELF compare
+    bench/elf/handler.py DWCHECK_ELF compare [-- OPTION..]
     bench/elf/handler.py DWCHECK_ELF time [--threads N] [--gigabytes N] [--touched MB] [-- OPTION..]
     bench/elf/handler.py DWCHECK_ELF many [--count N]
 
@@ -148,17 +148,17 @@ def report_of(folder):
     return text
 
 
-def compare(program, folder):
+def compare(program, folder, options):
     crashing = compiled(folder, "crashes", CRASHES)
     different = 0
     for way in WAYS:
-        with core_pattern(f"|{program} stack --handler %P --output {folder}/reports"):
+        with core_pattern(" ".join([f"|{program} stack --handler %P --output {folder}/reports", *options])):
             crash([crashing, way])
         report = report_of(folder)
         with core_pattern("core"):
             crash([crashing, way])
         core = next(folder.glob("core*"))
-        by_core = subprocess.run([program, "stack", core], capture_output=True, text=True).stdout
+        by_core = subprocess.run([program, "stack", core, *options], capture_output=True, text=True).stdout
         theirs, ours = by_gdb(folder, crashing, core), frames(report)
         shown = {line.split()[1] for line in ours[0] if line.startswith("#")} if ours else set()
         missing = [address for address in theirs if address not in shown]
@@ -219,7 +219,7 @@ def main():
     with tempfile.TemporaryDirectory(dir="/var/tmp", prefix="h") as name:
         folder = pathlib.Path(name)
         if words.what == "compare":
-            return compare(program, folder)
+            return compare(program, folder, words.options)
         if words.what == "many":
             return many(program, folder, words.count)
         return measure(program, folder, words)
