@@ -266,7 +266,7 @@ fn a_program_without_a_build_id_is_found_by_its_code() {
     compare(&folder, None);
     let found = || {
         let ran = dwcheck_elf(&folder, "stack --no-source --path symbols dump");
-        (functions(&ran.out).contains(&"faulty".to_string()), ran.error)
+        (functions(&ran.out).contains(&"handler".to_string()), ran.error)
     };
     folder.run("mkdir symbols && mv program symbols/");
     assert_eq!(found(), (true, String::new()));
@@ -299,21 +299,21 @@ fn code_that_a_program_has_made() {
     if !has("gdb") {
         return;
     }
-    folder.write("a.c", MADE_CODE);
-    folder.run("gcc -O1 a.c -o program");
-    folder.make_core("./program");
-    compare(&folder, None);
-    let bytes = folder.bytes("core");
-    folder.write("dump", minidump(&CoreFile::read(&bytes).unwrap(), None, Writer::Crashpad));
-    let ran = dwcheck_elf(&folder, "stack --no-source dump");
+    let crash = |source: &str| {
+        folder.write("a.c", source);
+        folder.run("gcc -O1 a.c -o program");
+        folder.make_core("./program");
+        let bytes = folder.bytes("core");
+        folder.write("dump", minidump(&CoreFile::read(&bytes).unwrap(), None, Writer::Crashpad));
+        dwcheck_elf(&folder, "stack --no-source dump")
+    };
+    let ran = crash(MADE_CODE);
+    assert_eq!(threads(&ran.out), threads(&dwcheck_elf(&folder, "stack --no-source core").out), "{}", ran.out);
     assert_eq!(ran.out.matches(" guess: frame pointer").count(), 2, "{}", ran.out);
-    assert!(functions(&ran.out).ends_with(&["calls", "main", "", "", "_start"].map(String::from)), "{}", ran.out);
-    folder.write("a.c", MADE_CODE.replace("\\x55\\x48\\x89\\xe5", "\\x51\\x31\\xed\\x90").replace("\\xc9", "\\x59"));
-    folder.run("gcc -O1 a.c -o program");
-    folder.make_core("./program");
-    let bytes = folder.bytes("core");
-    folder.write("dump", minidump(&CoreFile::read(&bytes).unwrap(), None, Writer::Crashpad));
-    let ran = dwcheck_elf(&folder, "stack --no-source dump");
+    assert_eq!(functions(&ran.out)[3..5], ["calls", "main"], "{}", ran.out);
+    // push %rcx; xor %ebp, %ebp; nop; .. pop %rcx
+    let without = MADE_CODE.replace("\\x55\\x48\\x89\\xe5", "\\x51\\x31\\xed\\x90").replace("\\xc9", "\\x59");
+    let ran = crash(&without);
     assert!(stop(&ran.out).ends_with(" is in no module, and may be code"), "{}", ran.out);
 }
 
