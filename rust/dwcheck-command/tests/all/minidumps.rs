@@ -266,7 +266,7 @@ fn a_program_without_a_build_id_is_found_by_its_code() {
     compare(&folder, None);
     let found = || {
         let ran = dwcheck_elf(&folder, "stack --no-source --path symbols dump");
-        (functions(&ran.out).contains(&"handler".to_string()), ran.error)
+        (functions(&ran.out).contains(&"main".to_string()), ran.error)
     };
     folder.run("mkdir symbols && mv program symbols/");
     assert_eq!(found(), (true, String::new()));

@@ -39,7 +39,7 @@ fn packed_core_files() {
     let folder = Folder::new("packed");
     folder.run("echo core > core; gzip -k core; printf BZh91AY > core.bz2; printf MDMPxx > mini");
     folder.run(
-        "printf 'ProblemType: Crash\\nCoreDump: base64\\n H4sI' > x.crash; printf '\\050\\265\\057\\375bad' > bad.zst",
+        "printf 'ProblemType: Crash\\nCoreDump: base64\\n H4sI' > x.crash; (printf '\\050\\265\\057\\375'; head -c 64 /dev/zero | tr '\\0' '\\377') > bad.zst",
     );
     for (file, why) in [
         ("core.gz", "not a core file that can be read: it doesn't begin as an ELF file"),
