@@ -148,8 +148,11 @@ def outlined_commands(text):
 
 
 def commands_in(name):
-    """The commands that a file describes."""
-    return (derived_commands if name.endswith(".rs") else outlined_commands)(read(name))
+    """The commands that a file describes, with those of its modules."""
+    if not name.endswith(".rs"):
+        return outlined_commands(read(name))
+    modules = sorted((TOP / name).with_suffix("").glob("*.rs"))
+    return derived_commands("\n".join([read(name), *(read(module) for module in modules)]))
 
 
 def table_of(pairs):
