@@ -412,9 +412,10 @@ typedef struct dwcheck_header { const uint8_t *bytes; size_t length; uint64_t ad
    dwcheck_is_signal_frame writes.
 
    Returns DONE; NONE if the table leads to no FDE that covers the address; REFUSED with the first fault of the FDE and
-   its CIE, at its offset in the section; NO_ROOM if the two have more than 32 expressions, or one of more than 16
-   bytes, for which an added module has room; TOO_LONG; BAD_KIND; BAD_TARGET; or NO_TABLE if the header isn't as linkers
-   write it (version 1, with the encodings 0x1b, 0x03 and 0x3b), or shorter than its table.
+   its CIE, at its offset in the section (a CIE that can't be read is NoSuchCie, at the FDE's CIE pointer); NO_ROOM if
+   the two have more than 32 expressions, or one of more than 16 bytes, for which an added module has room; TOO_LONG;
+   BAD_KIND; BAD_TARGET; or NO_TABLE if the header isn't as linkers write it (version 1, with the encodings 0x1b, 0x03
+   and 0x3b), or shorter than its table.
 
    If a check accepts the section, and the table leads to all its FDEs, this is the row that the check gives. A wrong
    table leads to no row, or to one of other bytes that read as an FDE which covers the address. */

@@ -29,7 +29,7 @@ impl Interrupt {
         // SAFETY: both structures are whole, and the handler only stores to a variable.
         let is_taken = unsafe {
             let mut action = MaybeUninit::<libc::sigaction>::zeroed().assume_init();
-            action.sa_sigaction = on_interrupt as usize;
+            action.sa_sigaction = on_interrupt as *const () as usize;
             action.sa_flags = libc::SA_RESETHAND;
             libc::sigaction(libc::SIGINT, std::ptr::null(), before.as_mut_ptr()) == 0
                 && before.assume_init_ref().sa_sigaction != libc::SIG_IGN
