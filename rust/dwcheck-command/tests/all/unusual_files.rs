@@ -83,7 +83,10 @@ fn files_of_other_kinds_say_what_they_are() {
         for words in ["check", "rows", "lint", "survey", "report -o page", "vars --thread 1 --core"] {
             let (status, error) = bounded(&folder, &format!("{} {}", words, file));
             assert_eq!(status, 3, "{} {}: {}", words, file, error);
+            let is_unpacked = file.ends_with(".xz") || file.ends_with(".gz");
             let said = match (words, why.split_once(", not an ELF file; ")) {
+                // Core files may be compressed.
+                ("vars --thread 1 --core", _) if is_unpacked => "an ELF file of type 1, not a core file".to_string(),
                 ("vars --thread 1 --core", Some((kind, help))) => format!("not a core file, but {}: {}", kind, help),
                 ("vars --thread 1 --core", None) => "not a core file that can be read".to_string(),
                 _ => why.to_string(),
