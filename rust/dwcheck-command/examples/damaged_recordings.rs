@@ -150,7 +150,7 @@ fn profile(bytes: &[u8], root: &Path, number: usize) -> Result {
         Ok(recording) => recording,
         Err(_) => return Result::default(),
     };
-    let search_paths = SearchPaths { root: root.to_path_buf(), cache: None };
+    let search_paths = SearchPaths { root: root.to_path_buf(), cache: None, ..SearchPaths::default() };
     let profile = Profile::read(&mut recording, &Options { search_paths, ..Options::default() }, |_| true);
     let names = Names::read(&profile, &Default::default());
     let event = profile.sampled_events().first().copied().unwrap_or(0);

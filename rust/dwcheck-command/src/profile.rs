@@ -3,9 +3,11 @@
 mod summary;
 
 use crate::arguments::{Format, ProfileArguments};
+use crate::debuginfod::{fetcher, note_problems};
 use crate::end::{shown_path, Done, Failure};
 use crate::output::{check_output_apart, Output};
 use crate::pool::start_threads;
+use dwcheck_elf::fetch::Fetcher;
 use dwcheck_elf::text::Escaped;
 use dwcheck_profile::script::ScriptOptions;
 use dwcheck_profile::{firefox, folded, html, pprof, script, speedscope, top};
@@ -25,7 +27,9 @@ pub fn profile(arguments: &ProfileArguments, out: &mut impl Write) -> Result<Don
         )?;
     }
     start_threads(arguments.jobs)?;
-    let (profile, names) = read_recording(arguments)?;
+    let fetcher = fetcher(arguments.debuginfod);
+    let (profile, names) = read_recording(arguments, &fetcher)?;
+    note_problems(&fetcher);
     check_event_name(arguments, &profile.events)?;
     match &arguments.output {
         None => write_profile(arguments, &profile, &names, out)?,
@@ -44,8 +48,8 @@ pub fn profile(arguments: &ProfileArguments, out: &mut impl Write) -> Result<Don
 }
 
 /// Reads the recording.
-fn read_recording(arguments: &ProfileArguments) -> Result<(Profile, Names), Failure> {
-    let options = profile_options(arguments)?;
+fn read_recording(arguments: &ProfileArguments, fetcher: &Fetcher) -> Result<(Profile, Names), Failure> {
+    let options = profile_options(arguments, fetcher)?;
     let kernel = arguments.kallsyms.clone();
     if let Some(path) = &kernel {
         File::open(path).map_err(|error| Failure::reading(path, &error))?;
@@ -151,8 +155,9 @@ fn progress_of_recording(size: Option<u64>) -> ProgressBar {
     }
 }
 
-fn profile_options(arguments: &ProfileArguments) -> Result<Options, Failure> {
+fn profile_options(arguments: &ProfileArguments, fetcher: &Fetcher) -> Result<Options, Failure> {
     let times = arguments.time.as_deref().map_or(Ok(0..=u64::MAX), parse_time_range)?;
+    let (root, fetcher) = (arguments.root.clone(), fetcher.clone());
     Ok(Options {
         comms: arguments.comm.clone(),
         pids: arguments.pid.clone(),
@@ -160,7 +165,7 @@ fn profile_options(arguments: &ProfileArguments) -> Result<Options, Failure> {
         times,
         event: arguments.event.clone(),
         limit: arguments.max_stack,
-        search_paths: SearchPaths { root: arguments.root.clone(), ..SearchPaths::default() },
+        search_paths: SearchPaths { root, fetcher, ..SearchPaths::default() },
     })
 }
 

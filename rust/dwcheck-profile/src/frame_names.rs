@@ -221,7 +221,8 @@ fn names_of_file(
         Some(bytes) => bytes,
         None => return Default::default(),
     };
-    let debug_files = DebugFiles::new(&profile.search_paths.root);
+    let search_paths = &profile.search_paths;
+    let debug_files = DebugFiles::new(&search_paths.root).fetching(&search_paths.fetcher);
     let wanted = stack::NameOptions { inlined: options.inlined, source: options.lines, raw: true };
     let address = |frame: u32| profile.frames[frame as usize].place.address;
     frames.sort_unstable_by_key(|frame| address(*frame));

@@ -5,6 +5,7 @@ use super::error::Error;
 use super::jitdump::is_jitdump_path;
 use super::recording::{BuildId, Features, Mapped};
 use super::tables::Tables;
+use dwcheck_elf::fetch::Fetcher;
 use dwcheck_elf::internal::without_row::{address_of_sigpanic, SignalReturn};
 use dwcheck_elf::internal::SectionTable;
 use dwcheck_elf::mapped::Bytes;
@@ -122,12 +123,15 @@ pub struct SearchPaths {
     pub root: PathBuf,
     /// perf's cache of files by build id, such as `~/.debug`.
     pub cache: Option<PathBuf>,
+    /// What fetches files that aren't in a folder, by their build ids.
+    pub fetcher: Fetcher,
 }
 
 impl Default for SearchPaths {
     fn default() -> Self {
         let home = std::env::var_os("HOME").filter(|home| !home.is_empty());
-        SearchPaths { root: PathBuf::from("/"), cache: home.map(|home| Path::new(&home).join(".debug")) }
+        let cache = home.map(|home| Path::new(&home).join(".debug"));
+        SearchPaths { root: PathBuf::from("/"), cache, fetcher: Fetcher::default() }
     }
 }
 
@@ -303,13 +307,15 @@ impl Object {
             return self.open_vdso(search_paths);
         }
         let name = self.recorded.strip_suffix(DELETED).unwrap_or(&self.recorded);
-        let cached = || {
-            let path = search_paths.cached(self.build_id.as_ref()?, "elf")?;
-            map_regular_file(&path).ok().filter(|bytes| self.is_same(bytes))
+        let same = |path: PathBuf| map_regular_file(&path).ok().filter(|bytes| self.is_same(bytes));
+        let kept = || {
+            let id = self.build_id.as_ref()?;
+            let cached = search_paths.cached(id, "elf").and_then(same);
+            cached.or_else(|| search_paths.fetcher.executable(id.bytes()).and_then(same))
         };
         match map_regular_file(&search_paths.inside(name).unwrap_or_default()) {
             Ok(bytes) if self.is_same(&bytes) => Loaded::of(bytes),
-            other => match (cached(), other) {
+            other => match (kept(), other) {
                 (Some(bytes), _) => Loaded::of(bytes),
                 (None, Ok(_)) => Loaded::problem("isn't the file that was recorded: its build id is another".into()),
                 (None, Err(why)) => Loaded::problem(why.to_string()),

@@ -1,5 +1,6 @@
 //! The arguments of `trace` and `profile`.
 
+use super::DebuginfodArguments;
 use clap::{Args, ValueEnum};
 use std::ffi::OsString;
 use std::path::PathBuf;
@@ -115,6 +116,8 @@ pub struct ProfileArguments {
     /// The folder in which the paths of the recording are looked up
     #[arg(long, value_name = "FOLDER", default_value = "/")]
     pub root: PathBuf,
+    #[command(flatten)]
+    pub debuginfod: DebuginfodArguments,
     /// A list of the kernel's functions: /proc/kallsyms or System.map of the machine that was recorded
     #[arg(long, value_name = "FILE")]
     pub kallsyms: Option<PathBuf>,

@@ -133,7 +133,7 @@ fn recording(bytes: &[u8], root: &Path) -> bool {
             return false;
         }
     };
-    let search_paths = SearchPaths { root: root.to_path_buf(), cache: None };
+    let search_paths = SearchPaths { root: root.to_path_buf(), cache: None, ..SearchPaths::default() };
     let options = dwcheck_profile::Options { search_paths, ..dwcheck_profile::Options::default() };
     let profile = Profile::read(&mut recording, &options, |_| true);
     let names = Names::read(&profile, &Default::default());

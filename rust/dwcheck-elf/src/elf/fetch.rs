@@ -21,7 +21,7 @@ impl Fetcher {
     }
 
     /// The path of a program or library with this build id, which who uses it has to check.
-    pub(crate) fn executable(&self, build_id: &[u8]) -> Option<PathBuf> {
+    pub fn executable(&self, build_id: &[u8]) -> Option<PathBuf> {
         self.find(Artifact::Executable, build_id)
     }
 
