@@ -140,8 +140,10 @@ def by_gdb(folder, program, core):
 
 
 def report_of(folder):
-    """The longest report: another program may have crashed meanwhile."""
-    reports = list((folder / "reports").glob("crash.*"))
+    """The longest report: another program may have crashed meanwhile. It is written after the process was let go."""
+    deadline = time.monotonic() + 20
+    while not (reports := list((folder / "reports").glob("crash.*"))) and time.monotonic() < deadline:
+        time.sleep(0.02)
     text = max((report.read_text() for report in reports), key=len, default="")
     for report in reports:
         report.unlink()
