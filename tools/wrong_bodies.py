@@ -349,20 +349,25 @@ def come(names, proved):
     return True
 
 
+def say(line):
+    """Prints a line in one piece: print by itself writes its end apart, and crates are tried side by side."""
+    print(f"{line}\n", end="", flush=True)
+
+
 def try_crate(crate, every, given):
     """Prints a line for each edit of a crate. Returns whether all were refused."""
     try:
         edits = [read_edit(path) for path in crate.edits]
     except (BadEdit, OSError) as error:
-        print(f"FAILED {crate.name}: {error}", flush=True)
+        say(f"FAILED {crate.name}: {error}")
         return False
     if not come(below(crate.name, every), given.proved):
-        print(f"FAILED {crate.name}: the libraries that it uses aren't proved", flush=True)
+        say(f"FAILED {crate.name}: the libraries that it uses aren't proved")
         return False
     is_well = True
     for group in batches(edits):
         for line in tried(crate, every, given, group):
-            print(line, flush=True)
+            say(line)
             is_well = is_well and line.startswith("ok ")
     return is_well
 
