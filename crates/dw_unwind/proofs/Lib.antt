@@ -2,6 +2,7 @@ pub mod Ascending
 pub mod Callers
 pub mod CallersFit
 pub mod Contents
+pub mod DirectCallers
 pub mod EachCaller
 pub mod GivenFrames
 pub mod InPlace

@@ -31,5 +31,7 @@ pub mod UsualSteps
 pub mod KeptRegisters
 -- one row that has been looked up
 pub mod OneRows
+-- the answers of rules without expressions
+pub mod DirectAnswers
 -- translates the code's frames and walks
 pub mod WalkViews

@@ -1,16 +1,17 @@
 //! Laws of unwinding and of walks: functions that do nothing, each with the law as its contract.
 
-ghost use Rattle.std.specs.Prelude.{◌≡◌, ◌↔◌, ◌<◌, ◌^◌, ◌≤◌, ◌++◌, ◌∷◌, [], ℕ, All, Contains, List, Option, Some, length, take};
+ghost use Rattle.std.specs.Prelude.{◌≡◌, ◌↔◌, ◌<◌, ◌^◌, ◌≤◌, ◌++◌, ◌∷◌, [], ℕ, ℤ, All, Contains, List, Option, Some, length, take};
 ghost use Rattle.std.specs.Borrow.{Bor};
 ghost use Rattle.dw_eval.specs.Numbers.{width_of};
 ghost use Rattle.dw_eval.specs.World.{World};
 ghost use Rattle.dw_frame.specs.Records.{Fde};
 ghost use Rattle.dw_rules.specs.Abi.{Abi};
-ghost use Rattle.dw_rules.specs.Rules.{Row};
+ghost use Rattle.dw_rules.specs.Rules.{IsTable, Row, register_and_offset};
 ghost use Rattle.dw_rows.specs.Section.{FrameSection, IsChecked, rows_in};
 ghost use Rattle.dw_tables.specs.UnwindTables.{IsTableOf, RowTable, row_at};
 ghost use Rattle.dw_rows.specs.RowLookups.{IsFoundAt};
-ghost use Rattle.dw_unwind.specs.Caller.{Caller, IsCaller, Unwinds, UnwindsBy};
+ghost use Rattle.dw_unwind.specs.Caller.{Caller, IsCaller, Unwinds, UnwindsBy, number_plus};
+ghost use Rattle.dw_unwind.specs.DirectAnswers.{AreDirect, HasDirectCaller, NamesRegisters};
 ghost use Rattle.dw_unwind.specs.Modules.{AreTablesOf, over_modules_of_rows, over_sections, over_tables, unborrowed, where_linked};
 ghost use Rattle.dw_unwind.specs.Walks.{AlwaysUnwinds, IsFrameAt, Place, WalkedFrame, Walks, first_place, over_rows, over_section, over_table};
 ghost use Rattle.dw_unwind.specs.WalkSteps.{GivesFrame, GivesFrames, Progress, about_to_give, after, has_given, stop_of};
@@ -65,6 +66,18 @@ pub fn unwinding_by_what_is_found()
         (c : Option Caller) → IsTableOf frame table
         → UnwindsBy e abi (row_at table address) c ↔ Unwinds e abi frame address c }
 {}
+
+/// A row whose rules have no expressions gives a caller, if the register of its CFA has a content.
+/// Each register of the caller has the content that its rule gives, or the ABI's rule if the row
+/// has none.
+pub fn rows_without_expressions_have_callers()
+    ensures { (e : World) (abi : Abi) (column : ℕ) (row : Row) (base content : ℕ) (by : ℤ)
+        → NamesRegisters abi → IsTable 0 row.rules → AreDirect row.rules
+        → row.cfa ≡ Some (register_and_offset base by) → e.registers base ≡ Some content
+        → HasDirectCaller e abi column row (number_plus e by content) }
+{
+    dw_rules::laws::rules_under_abis();
+}
 
 /// With an accepted section, a walk is determined by the place where it begins and by its limit.
 pub fn one_walk()

@@ -1,4 +1,5 @@
 mod AsBox
+mod CachedFills
 mod CursorSteps
 mod CursorWalks
 mod FirstEntries

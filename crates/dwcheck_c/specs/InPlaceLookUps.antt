@@ -44,14 +44,20 @@ abbrev pub IsTableBy : Target → ℕ → List ℕ → Option Table → Type 0
 IsTableBy target address [] table = table ≡ None
 IsTableBy target address (byte ∷ bytes) table = (table ≡ table_in target address (byte ∷ bytes)) × IsSome table
 
--- C gives the section `s`, and a header with the search table `table`, or no header.
+-- C gives the section `s`, of fewer than 2^32 bytes, and a header with the search table `table`, or no
+-- header.
 pub record AreInPlace (m : CModule) (h : CHeader) (s : SectionInPlace) (table : Option Table) : Type 0 where
+  pub short : length m.frame.now < 2 ^ 32
   pub target : Target
   pub target_is : target_by m.order m.address_size ≡ Some target
   pub is_aarch64 : Bool
   pub kind_is : is_aarch64_by m.kind ≡ Some is_aarch64
   pub section : s ≡ section_in is_aarch64 target m
   pub table_is : IsTableBy target h.address h.bytes.now table
+
+-- something can be looked up with what C passes
+abbrev pub IsUsable : CModule → CHeader → Type 0
+IsUsable m h = (s : SectionInPlace) × (table : Option Table) × AreInPlace m h s table
 
 -- There is a header, but no table: it isn't as linkers write it.
 pub record LacksTable (m : CModule) (h : CHeader) : Type 0 where
@@ -60,12 +66,17 @@ pub record LacksTable (m : CModule) (h : CHeader) : Type 0 where
   pub given : 0 < length h.bytes.now
   pub none : table_in target h.address h.bytes.now ≡ None
 
--- the status that says why nothing can be looked up with what C passes
+-- the section is one of `.eh_frame` of fewer than 2^32 bytes
+abbrev pub IsShortEhFrame : CModule → Type 0
+IsShortEhFrame m = (length m.frame.now < 2 ^ 32) × IsSome (is_aarch64_by m.kind)
+
+-- The status that says why nothing can be looked up with what C passes: the first reason, in the order
+-- of these lines.
 abbrev pub IsUnusable : CModule → CHeader → ℕ → Type 0
 IsUnusable m h status = ((status ≡ TOO_LONG) × (2 ^ 32 ≤ length m.frame.now))
-    ⊎ ((status ≡ BAD_KIND) × (is_aarch64_by m.kind ≡ None))
-    ⊎ ((status ≡ BAD_TARGET) × (target_by m.order m.address_size ≡ None))
-    ⊎ ((status ≡ NO_TABLE) × LacksTable m h)
+    ⊎ ((status ≡ BAD_KIND) × (length m.frame.now < 2 ^ 32) × (is_aarch64_by m.kind ≡ None))
+    ⊎ ((status ≡ BAD_TARGET) × IsShortEhFrame m × (target_by m.order m.address_size ≡ None))
+    ⊎ ((status ≡ NO_TABLE) × IsShortEhFrame m × LacksTable m h)
 
 -- ---- what is looked up
 
@@ -85,10 +96,10 @@ pub record IsLookedUp (m : CModule) (h : CHeader) (address : ℕ) (found : Resul
 -- why a look-up of an address has no answer; `memory` says that there was no room for expressions
 abbrev pub IsNoRow : CModule → CHeader → ℕ → NoAnswer → Type 0
 IsNoRow m h address TooLong = 2 ^ 32 ≤ length m.frame.now
-IsNoRow m h address BadKind = is_aarch64_by m.kind ≡ None
-IsNoRow m h address BadTarget = target_by m.order m.address_size ≡ None
-IsNoRow m h address NoTable = LacksTable m h
-IsNoRow m h address (Refused fault) = (fault ≡ memory) ⊎ IsLookedUp m h address (Err fault)
+IsNoRow m h address BadKind = (length m.frame.now < 2 ^ 32) × (is_aarch64_by m.kind ≡ None)
+IsNoRow m h address BadTarget = IsShortEhFrame m × (target_by m.order m.address_size ≡ None)
+IsNoRow m h address NoTable = IsShortEhFrame m × LacksTable m h
+IsNoRow m h address (Refused fault) = ((fault ≡ memory) × IsUsable m h) ⊎ IsLookedUp m h address (Err fault)
 
 -- the status that C gets for this reason
 abbrev pub Says : NoAnswer → ℕ → Type 0

@@ -13,7 +13,7 @@ ghost use Rattle.dw_in_place.specs.SearchTables.{table_in};
 ghost use Rattle.dw_in_place.specs.Views.{section_of, table_of};
 ghost use Rattle.dw_rows.specs.RowLookups.{IsRowUnder};
 ghost use Rattle.dw_rows.specs.Section.{IsChecked};
-ghost use Rattle.dwcheck_c.specs.InPlaceLookUps.{AreInPlace, HasRow, IsLookedUp, IsNoRow, IsRowGiven, IsStepIn, IsTableBy, IsUnusable, LacksPlaceIn, LooksUp, Says, is_aarch64_by, through_fde};
+ghost use Rattle.dwcheck_c.specs.InPlaceLookUps.{AreInPlace, HasRow, IsLookedUp, IsNoRow, IsRowGiven, IsStepIn, IsTableBy, IsUnusable, IsUsable, LacksPlaceIn, LooksUp, Says, is_aarch64_by, through_fde};
 ghost use Rattle.dw_unwind.specs.MissingPlaces.{LacksPlace};
 ghost use Rattle.dwcheck_c.specs.WalkCursors.{IsStepBy, looked_up_by, registers_in};
 
@@ -56,10 +56,10 @@ struct InPlace<'a, 'h> {
 
 /// The row of an address, with its FDE, and the target of the section.
 #[derive(Drop)]
-struct FoundInPlace<'p, 'a> {
-    target: Target,
-    row: UnwindRow<'p, 'a>,
-    fde: EhFde<'a>,
+pub(crate) struct FoundInPlace<'p, 'a> {
+    pub(crate) target: Target,
+    pub(crate) row: UnwindRow<'p, 'a>,
+    pub(crate) fde: EhFde<'a>,
 }
 
 /// Why a look-up has no answer.
@@ -154,7 +154,7 @@ fn find_row<'p, 'a>(
 }
 
 /// Looks up `address`, an address as loaded, in the section of `module` by the table of `header`.
-fn look_up<'p, 'a>(
+pub(crate) fn look_up<'p, 'a>(
     module: &CModule<'a>,
     header: &CHeader<'_>,
     address: u64,
@@ -179,7 +179,7 @@ fn look_up<'p, 'a>(
 }
 
 /// The status that says why a look-up has no answer, and the fault, if it is one.
-fn no_answer(why: NoAnswer, fault: &mut CFault) -> u32
+pub(crate) fn no_answer(why: NoAnswer, fault: &mut CFault) -> u32
     ensures says { Says why result }
     ensures reported { result ≡ REFUSED → (first : Why) × (why ≡ NoAnswer.Refused first)
         × (first.kind ≢ Memory) × (fault.new ≡ cfault_of IN_FRAME first) }
@@ -220,6 +220,7 @@ pub extern "C" fn dwcheck_row_in(
     ensures none { result ≡ NONE → IsLookedUp module.now header.now address (Ok None) }
     ensures refused { result ≡ REFUSED → (why : Why) × IsLookedUp module.now header.now address (Err why)
         × (fault.new ≡ cfault_of IN_FRAME why) }
+    ensures room { result ≡ NO_ROOM → IsUsable module.now header.now }
     ensures unusable { result ≢ DONE → result ≢ NONE → result ≢ REFUSED → result ≢ NO_ROOM
         → IsUnusable module.now header.now result }
     ensures unwritten { result ≢ DONE → (row.new ≡ row.old) × (rules.new ≡ rules.old)
@@ -258,10 +259,11 @@ fn step_by_fde(
     requires at { looked_up_by cursor.old.stage cursor.old.address ≡ Some address }
     requires under { IsRowUnder found.target found.row }
     ensures done { result ≡ DONE → IsStepBy (through_fde found.entry.target
-        (eh_fde_of found.entry.fde) found.entry.row (abi_in state.now) (memory_of state.now) state.now.signed_bits) cursor.old cursor.new frame.new }
+        (eh_fde_of found.entry.fde) found.entry.row (abi_in state.now) (memory_of state.now)
+        state.now.signed_bits) cursor.old cursor.new frame.new }
     ensures lacks { result ≡ NO_PLACE → LacksPlace (through_fde found.entry.target
-        (eh_fde_of found.entry.fde) found.entry.row (abi_in state.now) (memory_of state.now) 0).callers (registers_in cursor.old)
-        (Some address) }
+        (eh_fde_of found.entry.fde) found.entry.row (abi_in state.now) (memory_of state.now)
+        0).callers (registers_in cursor.old) (Some address) }
     ensures codes { (result ≡ DONE) ⊎ (result ≡ NO_PLACE) }
     ensures unwritten { result ≢ DONE → (cursor.new ≡ cursor.old) × (frame.new ≡ frame.old) }
 {
@@ -299,13 +301,16 @@ pub extern "C" fn dwcheck_step_in(
 ) -> u32
     ensures done { result ≡ DONE → IsStepIn module.now header.now (abi_in state.now)
         (memory_of state.now) state.now.signed_bits cursor.old cursor.new frame.new }
-    ensures lacks { result ≡ NO_PLACE → (a : ℕ) × (looked_up_by cursor.old.stage cursor.old.address ≡ Some a)
+    ensures lacks { result ≡ NO_PLACE → (a : ℕ)
+        × (looked_up_by cursor.old.stage cursor.old.address ≡ Some a)
         × LacksPlaceIn module.now header.now a (abi_in state.now) (memory_of state.now) cursor.old }
-    ensures refused { result ≡ REFUSED → (a : ℕ) × (looked_up_by cursor.old.stage cursor.old.address ≡ Some a)
+    ensures refused { result ≡ REFUSED → (a : ℕ)
+        × (looked_up_by cursor.old.stage cursor.old.address ≡ Some a)
         × ((why : Why) × IsLookedUp module.now header.now a (Err why)
         × (fault.new ≡ cfault_of IN_FRAME why)) }
     ensures none { result ≡ NONE → CALLER < cursor.old.stage }
     ensures some { result ≢ NONE → cursor.old.stage ≤ CALLER }
+    ensures room { result ≡ NO_ROOM → IsUsable module.now header.now }
     ensures unusable { result ≢ DONE → result ≢ NONE → result ≢ REFUSED → result ≢ NO_ROOM
         → result ≢ NO_PLACE → IsUnusable module.now header.now result }
     ensures unwritten { result ≢ DONE → (cursor.new ≡ cursor.old) × (frame.new ≡ frame.old) }

@@ -3,6 +3,7 @@
 #![tactic(auto)]
 
 mod backtrace;
+mod cached_walks;
 mod checks;
 mod cursor;
 mod expressions;

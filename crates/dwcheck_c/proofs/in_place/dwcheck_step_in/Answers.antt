@@ -1,8 +1,7 @@
-use Rattle.std.proofs.Common.{◌≡◌, ◌∙◌, inl, inr, None, Option, subst, sym, ℕ}
+use Rattle.std.proofs.Common.{◌≡◌, ◌∙◌, inr, None, Option, subst, sym, ℕ}
 use Rattle.std.specs.Prelude.{IfNone}
 use Rattle.dw_c_types.specs.Machine.{abi_in, memory_of}
 use Rattle.dwcheck_c.specs.InPlaceLookUps.{IsStepAt}
-use Rattle.dwcheck_c.proofs.NoAnswers.{first-fault, not-usable}
 use Rattle.dwcheck_c.proofs.in_place.dwcheck_step_in.Goals as goal
 
 none-found : {X P : Type 0} (o : Option X) → o ≡ None → IfNone o P → P

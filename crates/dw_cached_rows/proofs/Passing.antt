@@ -1,0 +1,183 @@
+-- A walk passes one frame more, or ends.
+use Rattle.std.proofs.Common.{◌≡◌, ◌≢◌, ℕ, zero, suc, ◌<◌, ◌==◌, ◌&&◌, ◌%◌, Bool, true, false, List, [], ◌∷◌, ◌++◌, refl, sym, ap, subst, ◌∙◌, arith, ◌+◌, length, take, drop, set, drop-drop, drop-set-lt}
+use Rattle.std.specs.Prelude.{Option, Some, None}
+use Rattle.std.proofs.lemmas.List.{map-append, take_more_set}
+use Rattle.std.proofs.lemmas.Bool.Decides.{nat_tests}
+use Rattle.dw_rules.specs.Rules.{Row, register_and_offset}
+use Rattle.dw_unwind.specs.Caller.{Caller}
+use Rattle.dw_unwind.specs.Walks.{AreFrames, CallerRelation, IsFrameAt, Place, UnwindsAt, WalkedFrame, address_before, next_place}
+use Rattle.dw_unwind.specs.declared.frames.Stop.{Stop}
+use Rattle.dw_unwind.specs.declared.frames.Stop.TheVariants.{ReturnUndefined, ReturnUnreadable}
+use Rattle.dw_cached_rows.specs.declared.cached_rows.TheConstants.{ROWS}
+use Rattle.dw_cached_rows.specs.declared.packed_row.PackedRow.{PackedRow}
+use Rattle.dw_cached_rows.specs.declared.packed_row.TheConstants.{LAST, SLOTS}
+use Rattle.dw_cached_rows.specs.declared.stack_place.StackPlace.{StackPlace}
+use Rattle.dw_cached_rows.specs.declared.stack_place.Step.{Step}
+use Rattle.dw_cached_rows.specs.declared.stack_place.Step.TheVariants as steps
+use Rattle.dw_cached_rows.specs.PackedRows.{IsRowOf, rules_of}
+use Rattle.dw_cached_rows.specs.CachedRows.{entry_at, is_confirmed, is_usable}
+use Rattle.dw_cached_rows.specs.CachedWalks.{EndsAfter, EndsHere, IsAt, IsCallerFrom, IsStep, Passes, addresses_of, over_cached, place_after}
+
+-- ---- one frame more
+
+frames-snoc : (u : CallerRelation) (p : Option Place) (frames : List WalkedFrame) (q : Place) (f : WalkedFrame) → AreFrames u p frames
+    → place_after p frames ≡ Some q → IsFrameAt u q f
+    → AreFrames u p (frames ++ f ∷ []) × (place_after p (frames ++ f ∷ []) ≡ next_place f.caller)
+frames-snoc u p [] q f are is at = (subst (λ (o : Option Place). AreFrames u o (f ∷ [])) (sym is) (at, tt), refl)
+frames-snoc u None (g ∷ frames) q f are is at = absurd are
+frames-snoc u (Some p) (g ∷ frames) q f are is at =
+    let rest = frames-snoc u (next_place g.caller) frames q f are.1 is at in ((are.0, rest.0), rest.1)
+
+-- ---- the frame of a usable entry
+
+-- a row for which a packed one stands
+abbrev row-of : PackedRow → Row
+row-of p = record { start = 0; end = 0; cfa = Some (register_and_offset (p.form % LAST) p.cfa_offset); rules = rules_of p }
+
+is-row : (p : PackedRow) → p.form ≢ 0 → IsRowOf p (row-of p)
+is-row p some = record { some = some; cfa = refl; rules = refl }
+
+both : (a b : Bool) → (a && b) ≡ true → (a ≡ true) × (b ≡ true)
+both true true is = (refl, refl)
+both true false is = absurd (cc)
+both false b is = absurd (cc)
+
+same : (n m : ℕ) → (n == m) ≡ true → n ≡ m
+same n m is = grind (arith, nat_tests, is)
+
+unwinds : (rows : List PackedRow) (confirmed key i : ℕ) (memory : ℕ → Option ℕ) (q : Place) (caller : Caller) → key ≢ 0
+    → i < ROWS → is_usable confirmed key (entry_at rows i) ≡ true → (entry_at rows i).form ≢ 0
+    → IsCallerFrom memory (row-of (entry_at rows i)) q caller
+    → UnwindsAt (over_cached rows confirmed memory) q.registers (address_before key) (Some caller)
+unwinds rows confirmed zero i memory q caller some lt usable form is = absurd (some refl)
+unwinds rows confirmed (suc a) i memory q caller some lt usable form is =
+    let e = entry_at rows i in
+    let split = both (e.key == suc a) (is_confirmed confirmed (e.slot % SLOTS)) usable in (
+      Some (row-of e, 16),
+      record {
+        slot = e.slot % SLOTS;
+        confirmed = split.1;
+        held = (i, record { inside = lt; key = same e.key (suc a) split.0; slot_is = refl; is = is-row e form });
+        column = refl;
+      },
+      is,
+    )
+
+frame-here : (rows : List PackedRow) (confirmed i : ℕ) (memory : ℕ → Option ℕ) (here : StackPlace) (q : Place) (caller : Caller)
+    → IsAt memory here q → here.key ≢ 0 → i < ROWS → is_usable confirmed here.key (entry_at rows i) ≡ true
+    → (entry_at rows i).form ≢ 0 → IsCallerFrom memory (row-of (entry_at rows i)) q caller
+    → IsFrameAt (over_cached rows confirmed memory) q (record { address = q.address; caller = Some caller })
+frame-here rows confirmed i memory here q caller at some lt usable form is = (
+  refl,
+  subst (λ (o : Option ℕ). UnwindsAt (over_cached rows confirmed memory) q.registers o (Some caller)) (sym at.looked_up)
+      (unwinds rows confirmed here.key i memory q caller some lt usable form is),
+)
+
+addresses-snoc : (frames : List WalkedFrame) (f : WalkedFrame) (xs : List ℕ) (x : ℕ) → addresses_of frames ≡ xs → f.address ≡ x
+    → addresses_of (frames ++ f ∷ []) ≡ xs ++ x ∷ []
+addresses-snoc frames f xs x are is =
+    map-append (λ (g : WalkedFrame). g.address) frames (f ∷ [])
+    ∙ ap (λ (l : List ℕ). l ++ f.address ∷ []) are ∙ ap (λ (a : ℕ). xs ++ a ∷ []) is
+
+-- what a step says of each place where the walk may be
+abbrev pub Says : (ℕ → Option ℕ) → PackedRow → StackPlace → Step → Type 0
+Says memory e here step = (p : Place) (full : Row) → IsAt memory here p → IsRowOf e full → IsStep memory full p step
+
+pub passes-next : (rows : List PackedRow) (confirmed i : ℕ) (memory : ℕ → Option ℕ) (from here next : StackPlace) (xs : List ℕ)
+    → here.key ≢ 0 → i < ROWS → is_usable confirmed here.key (entry_at rows i) ≡ true → (entry_at rows i).form ≢ 0
+    → Says memory (entry_at rows i) here (steps.To next) → Passes (over_cached rows confirmed memory) memory from xs here
+    → Passes (over_cached rows confirmed memory) memory from (xs ++ here.address ∷ []) next
+passes-next rows confirmed i memory from here next xs some lt usable form says passes p at =
+    let u = over_cached rows confirmed memory in
+    let before = passes p at in
+    let frames = before.0 in let q = before.1 in let passed = before.2 in let at-q = before.3 in
+    let step = says q (row-of (entry_at rows i)) at-q (is-row (entry_at rows i) form) in
+    let f : WalkedFrame = record { address = q.address; caller = Some step.0 } in
+    let more = frames-snoc u (Some p) frames q f passed.are passed.to_is
+    (frame-here rows confirmed i memory here q step.0 at-q some lt usable form step.1) in (
+      frames ++ f ∷ [],
+      step.2,
+      record { are = more.0; to_is = more.1 ∙ step.3 },
+      step.4,
+      addresses-snoc frames f xs here.address before.4 at-q.address,
+    )
+
+pub ends-next : (rows : List PackedRow) (confirmed i : ℕ) (memory : ℕ → Option ℕ) (from here : StackPlace) (xs : List ℕ) (stop : Stop)
+    → here.key ≢ 0 → i < ROWS → is_usable confirmed here.key (entry_at rows i) ≡ true → (entry_at rows i).form ≢ 0
+    → ((p : Place) (full : Row) → IsAt memory here p → IsRowOf (entry_at rows i) full → EndsHere memory full p stop) → Passes (over_cached rows confirmed memory) memory from xs here
+    → EndsAfter (over_cached rows confirmed memory) memory from (xs ++ here.address ∷ []) stop
+ends-next rows confirmed i memory from here xs stop some lt usable form says passes p at =
+    let before = passes p at in
+    let frames = before.0 in let q = before.1 in let passed = before.2 in let at-q = before.3 in
+    let step = says q (row-of (entry_at rows i)) at-q (is-row (entry_at rows i) form) in
+    let f : WalkedFrame = record { address = q.address; caller = Some step.0 } in (
+      frames ++ f ∷ [],
+      record {
+        before = frames;
+        place = q;
+        last = f;
+        passed = passed;
+        is = frame-here rows confirmed i memory here q step.0 at-q some lt usable form step.1;
+        ends = step.2;
+        all = refl;
+      },
+      addresses-snoc frames f xs here.address before.4 at-q.address,
+    )
+
+pub passes-none : (u : CallerRelation) (memory : ℕ → Option ℕ) (from : StackPlace) → Passes u memory from [] from
+passes-none u memory from p at = ([], p, record { are = tt; to_is = refl }, at, refl)
+
+-- ---- what a walk writes
+
+-- The addresses that are written, once one more is.
+pub written-next : (xs old : List ℕ) (n x : ℕ) → n < length xs → drop n xs ≡ drop n old → drop (n + 1) (set xs n x) ≡ drop (n + 1) old
+written-next xs old n x lt rest =
+    drop-set-lt (n + 1) xs n x (omega arith)
+    ∙ sym (drop-drop 1 n xs) ∙ ap (λ (l : List ℕ). drop 1 l) rest ∙ drop-drop 1 n old
+
+pub walks-on : (held rows : List PackedRow) (confirmed i : ℕ) (memory : ℕ → Option ℕ) (from here next : StackPlace) (xs : List ℕ) (n : ℕ)
+    (step : Step) → rows ≡ held → n < length xs → here.key ≢ 0 → i < ROWS → is_usable confirmed here.key (entry_at rows i) ≡ true
+    → ((entry_at rows i).form ≡ 0 → step ≡ steps.Other) → step ≡ steps.To next → Says memory (entry_at rows i) here step
+    → Passes (over_cached held confirmed memory) memory from (take n xs) here
+    → Passes (over_cached held confirmed memory) memory from (take (n + 1) (set xs n here.address)) next
+walks-on held rows confirmed i memory from here next xs n step same lt some inside usable none is says passes =
+    let u = over_cached held confirmed memory in
+    subst (λ (l : List ℕ). Passes u memory from l next) (sym (take_more_set xs n here.address lt))
+    (passes-next held confirmed i memory from here next (take n xs) some inside
+    (subst (λ (r : List PackedRow). is_usable confirmed here.key (entry_at r i) ≡ true) same usable)
+    (λ zero-form. other-goes next (sym (none (subst (λ (r : List PackedRow). (entry_at r i).form ≡ 0) (sym same) zero-form)) ∙ is))
+    (subst (λ (r : List PackedRow). Says memory (entry_at r i) here (steps.To next)) same
+    (subst (λ (s : Step). Says memory (entry_at rows i) here s) is says)) passes)
+  where
+    other-goes : (next : StackPlace) → steps.Other ≡ steps.To next → ⊥
+    other-goes next is = absurd (cc)
+
+-- a step that ends a walk
+abbrev pub EndsBy : Step → Stop → Type 0
+EndsBy step stop = (memory : ℕ → Option ℕ) (full : Row) (p : Place) → IsStep memory full p step → EndsHere memory full p stop
+
+pub walk-ends : (held rows : List PackedRow) (confirmed i : ℕ) (memory : ℕ → Option ℕ) (from here : StackPlace) (xs : List ℕ) (n : ℕ)
+    (step : Step) (stop : Stop) → rows ≡ held → n < length xs → here.key ≢ 0 → i < ROWS
+    → is_usable confirmed here.key (entry_at rows i) ≡ true → (entry_at rows i).form ≢ 0 → EndsBy step stop
+    → Says memory (entry_at rows i) here step → Passes (over_cached held confirmed memory) memory from (take n xs) here
+    → EndsAfter (over_cached held confirmed memory) memory from (take (n + 1) (set xs n here.address)) stop
+walk-ends held rows confirmed i memory from here xs n step stop same lt some inside usable form ends says passes =
+    let u = over_cached held confirmed memory in
+    subst (λ (l : List ℕ). EndsAfter u memory from l stop) (sym (take_more_set xs n here.address lt))
+    (ends-next held confirmed i memory from here (take n xs) stop some inside
+    (subst (λ (r : List PackedRow). is_usable confirmed here.key (entry_at r i) ≡ true) same usable)
+    (subst (λ (r : List PackedRow). (entry_at r i).form ≢ 0) same form)
+    (λ p full at is. ends memory full p (says p full at (subst (λ (r : List PackedRow). IsRowOf (entry_at r i) full) (sym same) is))) passes)
+
+-- a step that ends a walk isn't `Other`, and ends it for its own reason
+pub ends-undefined : (step : Step) → step ≡ steps.ReturnUndefined → EndsBy step ReturnUndefined
+ends-undefined step is memory full p says = subst (λ (s : Step). IsStep memory full p s) is says
+
+pub ends-unreadable : (step : Step) → step ≡ steps.ReturnUnreadable → EndsBy step ReturnUnreadable
+ends-unreadable step is memory full p says = subst (λ (s : Step). IsStep memory full p s) is says
+
+pub some-undefined : (e : PackedRow) (step : Step) → (e.form ≡ 0 → step ≡ steps.Other) → step ≡ steps.ReturnUndefined → e.form ≢ 0
+some-undefined e step none is zero-form = absurd (cc (none zero-form, is))
+
+pub some-unreadable : (e : PackedRow) (step : Step) → (e.form ≡ 0 → step ≡ steps.Other) → step ≡ steps.ReturnUnreadable → e.form ≢ 0
+some-unreadable e step none is zero-form = absurd (cc (none zero-form, is))

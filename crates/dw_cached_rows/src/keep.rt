@@ -1,0 +1,89 @@
+//! Rows that are packed into a cache.
+
+ghost use Rattle.std.specs.Prelude.{◌≡◌, ◌<◌, ◌≤◌, ◌+◌, ◌/◌, ◌⊎◌, ℕ, IfSome, true, false};
+ghost use Rattle.dw_rules.specs.Rules.{Row};
+ghost use Rattle.dw_cached_rows.specs.CachedRows.{Holds, HoldsInSet, IsKept, set_of_key};
+ghost use Rattle.dw_cached_rows.specs.PackedRows.{IsRowOf};
+
+use crate::cached_rows::{CachedRows, ROWS, SETS, WAYS, first_of_set};
+use crate::packed_row::{PackedRow, RETURN_ADDRESS, SLOTS, pack};
+use dw_rules::UnwindRow;
+
+/// The index of the first entry with this key in the set that begins at `first`.
+fn way_with_key(rows: &[PackedRow; ROWS], first: usize, key: u64) -> Option<usize>
+    requires { first + WAYS ≤ ROWS }
+    ensures { IfSome result (λ index. (first ≤ index) × (index < first + WAYS)) }
+{
+    for way in 0..WAYS {
+        if rows[first + way].key == key {
+            return Some(first + way);
+        }
+    }
+    None
+}
+
+/// The index of the entry that a new row of a key takes: one with that key, or a free one, or the
+/// next one of its set in turn.
+fn entry_for(rows: &[PackedRow; ROWS], turns: &mut [u8; SETS], key: u64) -> usize
+    ensures set { result / WAYS ≡ set_of_key key }
+    ensures inside { result < ROWS }
+{
+    let first = first_of_set(key);
+    if let Some(index) = way_with_key(rows, first, key) {
+        return index;
+    }
+    if let Some(index) = way_with_key(rows, first, 0) {
+        return index;
+    }
+    let set = first / WAYS;
+    turns[set] = turns[set].wrapping_add(1);
+    first + usize::from(turns[set]) % WAYS
+}
+
+/// Packs a row if walks can use it: that of a signal frame isn't one, since its caller made no
+/// call. An entry of the form 0 if it can't be packed.
+fn packed(row: &UnwindRow<'_, '_>, return_register: u16, is_signal_frame: bool) -> PackedRow
+    ensures { (result.form ≡ 0) ⊎ ((return_register ≡ RETURN_ADDRESS) × (is_signal_frame ≡ false)
+        × IsRowOf result row.now) }
+{
+    if is_signal_frame || return_register != RETURN_ADDRESS {
+        return PackedRow::none();
+    }
+    match pack(row) {
+        Some(packed) => packed,
+        None => PackedRow::none(),
+    }
+}
+
+impl CachedRows {
+    /// Keeps the row of an address, of the module with the slot `slot`. `return_register` is the
+    /// return address register that the row's CIE names. Returns whether the cache has the row now.
+    /// If it can't have it, it may keep a note, so that walks say `Other` there and not `Missing`.
+    /// The row may take the place of another one.
+    pub fn keep(
+        &mut self,
+        slot: u8,
+        address: u64,
+        row: &UnwindRow<'_, '_>,
+        return_register: u16,
+        is_signal_frame: bool,
+    ) -> bool
+        requires { slot < SLOTS }
+        ensures held { result ≡ true → HoldsInSet self.new.rows slot address row.now }
+        ensures usable { result ≡ true → (return_register ≡ RETURN_ADDRESS)
+            × (is_signal_frame ≡ false) }
+        ensures only { (other at : ℕ) (held : Row) → Holds self.new.rows other at held
+            → Holds self.old.rows other at held ⊎ IsKept slot address row.now return_register
+            is_signal_frame other at held }
+    {
+        let Some(key) = address.checked_add(1) else {
+            return false;
+        };
+        let mut entry = packed(row, return_register, is_signal_frame);
+        entry.key = key;
+        entry.slot = slot;
+        let index = entry_for(&self.rows, &mut self.turns, key);
+        self.rows[index] = entry;
+        entry.form != 0
+    }
+}

@@ -1,0 +1,15 @@
+//! A cache of rows for walks that recur: which rows it has, and walks of x86-64's stacks with these
+//! rows alone.
+#![tactic(auto)]
+
+mod cached_rows;
+mod keep;
+pub mod laws;
+mod packed_row;
+mod stack_place;
+mod walk;
+
+pub use cached_rows::CachedRows;
+pub use packed_row::{PackedRow, SLOTS};
+pub use stack_place::StackPlace;
+pub use walk::WalkEnd;

@@ -1,0 +1,55 @@
+-- Rows that C keeps for walks that recur, and why such a walk ends.
+use Rattle.std.specs.Prelude.{◌≡◌, ℕ, false, List}
+use Rattle.dw_bytes.specs.declared.target.Target.{Target}
+use Rattle.dw_rules.specs.Rules.{Row}
+use Rattle.dw_eh_frame.specs.Records.{EhFde}
+use Rattle.dw_c_types.specs.Frames.{stop_number}
+use Rattle.dw_unwind.specs.declared.frames.Stop.TheVariants as stops
+use Rattle.dw_cached_rows.specs.declared.packed_row.PackedRow.{PackedRow}
+use Rattle.dw_cached_rows.specs.declared.packed_row.TheConstants.{RETURN_ADDRESS}
+use Rattle.dw_cached_rows.specs.declared.walk.WalkEnd.{WalkEnd}
+use Rattle.dw_cached_rows.specs.declared.walk.WalkEnd.TheVariants as ends
+use Rattle.dw_cached_rows.specs.CachedRows.{HasRulesOf, HoldsInSet}
+use Rattle.dw_cached_rows.specs.CachedWalks.{little_64}
+use Rattle.dwcheck_c.specs.InPlaceLookUps.{HasRow}
+use Rattle.dwcheck_c.specs.declared.cached_walks.TheConstants.{MISSING, OTHER}
+use Rattle.dwcheck_c.specs.declared.in_place.CHeader.{CHeader}
+use Rattle.dwcheck_c.specs.declared.module.CModule.{CModule}
+
+-- C's number for why a walk with cached rows ends
+abbrev pub end_number : WalkEnd → ℕ
+end_number ends.Full = stop_number stops.Limit
+end_number ends.Missing = MISSING
+end_number ends.Other = OTHER
+end_number ends.ReturnUndefined = stop_number stops.ReturnUndefined
+end_number ends.ReturnUnreadable = stop_number stops.ReturnUnreadable
+
+-- ---- the row that is kept
+
+-- The rows of an FDE can be kept: numbers have 8 bytes, the least significant one first; the frames
+-- aren't those of signals; and the return address has the column that x86-64 gives it.
+pub record IsUsable (target : Target) (fde : EhFde) : Type 0 where
+  pub target_is : target ≡ little_64
+  pub column : fde.cie.cie.return_address_register ≡ RETURN_ADDRESS
+  pub called : fde.cie.augmentation.is_signal ≡ false
+
+-- The look-up in place of an address as loaded finds an FDE with this row, which can be kept.
+pub record HasUsableRow (m : CModule) (h : CHeader) (address : ℕ) (row : Row) : Type 0 where
+  pub target : Target
+  pub fde : EhFde
+  pub usable : IsUsable target fde
+  pub has : HasRow m h address target fde row
+
+-- The cache has the row of the address now, where walks search for it.
+pub record IsFilled (m : CModule) (h : CHeader) (slot address : ℕ) (rows : List PackedRow) : Type 0 where
+  pub row : Row
+  pub has : HasUsableRow m h address row
+  pub held : HoldsInSet rows slot address row
+
+-- a row that the cache has is the one of this address, for this slot
+pub record IsOfFill (m : CModule) (h : CHeader) (slot address other at : ℕ) (held : Row) : Type 0 where
+  pub slot_is : other ≡ slot
+  pub address_is : at ≡ address
+  pub row : Row
+  pub has : HasUsableRow m h address row
+  pub rules : HasRulesOf held row

@@ -1,0 +1,170 @@
+//! The C calls that keep rows for walks that recur, and walk with them.
+
+ghost use Rattle.std.specs.Prelude.{◌≡◌, ◌≢◌, ◌↔◌, ◌%◌, ◌<◌, ◌≤◌, ◌⊎◌, ℕ, IfSome, None, Ok, Err, drop, length, take, false};
+ghost use Rattle.dw_bytes.specs.declared.fault.Fault.{Fault as Why};
+ghost use Rattle.dw_c_types.specs.Faults.{cfault_of};
+ghost use Rattle.dw_c_types.specs.Frames.{stop_number};
+ghost use Rattle.dw_c_types.specs.Machine.{byte_in};
+ghost use Rattle.dw_rules.specs.Rules.{Row};
+ghost use Rattle.dw_unwind.specs.Walks.{address_before};
+ghost use Rattle.dw_eh_frame.specs.Views.{eh_fde_of};
+ghost use Rattle.dw_unwind.specs.declared.frames.Stop.{Stop as Reason};
+ghost use Rattle.dw_cached_rows.specs.CachedRows.{Holds, HoldsInSet, IsKept, IsMissing};
+ghost use Rattle.dw_cached_rows.specs.CachedWalks.{EndsAfter, IsOther, Passes, over_cached};
+ghost use Rattle.dwcheck_c.specs.CachedFills.{IsFilled, IsOfFill, IsUsable as IsUsableRow, end_number};
+ghost use Rattle.dwcheck_c.specs.InPlaceLookUps.{IsLookedUp, IsUnusable, IsUsable};
+
+use crate::in_place::{CHeader, FoundInPlace, look_up, no_answer};
+use crate::module::CModule;
+use dw_bytes::{AddressSize, Order, Target};
+use dw_c_types::answer::stop_code;
+use dw_c_types::fault::{CFault, IN_FRAME};
+use dw_c_types::memory::{Blocks, CBlock};
+use dw_c_types::status::{DONE, NO_PLACE, NO_ROOM, NONE, REFUSED};
+use dw_cached_rows::{CachedRows, SLOTS, StackPlace, WalkEnd};
+use dw_in_place::LookUpMemory;
+use dw_unwind::Stop;
+use std::alloc::Global;
+
+/// Why a walk with cached rows stops: the cache has no row for the frame that it is at.
+pub const MISSING: u32 = 5;
+
+/// The frame that it is at takes a step with all registers.
+pub const OTHER: u32 = 6;
+
+/// C's number for why a walk ends.
+#[inline(always)]
+fn end_code(end: WalkEnd) -> u32
+    ensures { result ≡ end_number end }
+{
+    match end {
+        WalkEnd::Full => stop_code(Stop::Limit),
+        WalkEnd::Missing => MISSING,
+        WalkEnd::Other => OTHER,
+        WalkEnd::ReturnUndefined => stop_code(Stop::ReturnUndefined),
+        WalkEnd::ReturnUnreadable => stop_code(Stop::ReturnUnreadable),
+    }
+}
+
+/// The target whose stacks are walked with cached rows.
+const LITTLE_64: Target = Target {
+    order: Order::Little,
+    address_size: AddressSize::Eight,
+};
+
+/// Keeps a row that was looked up.
+fn keep_row(rows: &mut CachedRows, slot: u8, address: u64, found: &FoundInPlace<'_, '_>) -> u32
+    requires { slot < SLOTS }
+    ensures held { result ≡ DONE → HoldsInSet rows.new.rows slot address found.now.row
+        × IsUsableRow found.now.target (eh_fde_of found.now.fde) }
+    ensures only { (other at : ℕ) (held : Row) → Holds rows.new.rows other at held
+        → Holds rows.old.rows other at held ⊎ (IsUsableRow found.now.target (eh_fde_of found.now.fde)
+        × IsKept slot address found.now.row 16 false other at held) }
+    ensures codes { (result ≡ DONE) ⊎ (result ≡ NO_PLACE) }
+{
+    if found.target != LITTLE_64 {
+        return NO_PLACE;
+    }
+    let cie = &found.fde.cie;
+    let column = cie.cie.return_address_register;
+    if rows.keep(
+        slot,
+        address,
+        &found.row,
+        column,
+        cie.augmentation.is_signal,
+    ) {
+        DONE
+    } else {
+        NO_PLACE
+    }
+}
+
+/// The slot that a number of C's names.
+fn slot_of(slot: u32) -> u8
+    ensures { result ≡ slot % SLOTS }
+{
+    (slot % u32::from(SLOTS)) as u8
+}
+
+/// Looks up `address`, an address as loaded, in the section of `module` in place, by the table of
+/// `header`, and keeps its row in `rows` for walks, as a row of the module with the slot `slot`
+/// modulo 64. The row may take the place of another one. `NO_PLACE` says that there is a row, but
+/// that it can't be kept: walks stop there, and the frame takes a step of a cursor.
+#[unsafe(no_mangle)]
+pub extern "C" fn dwcheck_rows_fill(
+    alloc: Global,
+    rows: &mut CachedRows,
+    slot: u32,
+    module: &CModule<'_>,
+    header: &CHeader<'_>,
+    address: u64,
+    fault: &mut CFault,
+) -> u32
+    ensures done { result ≡ DONE
+        → IsFilled module.now header.now (slot % SLOTS) address rows.new.rows }
+    ensures only { (other at : ℕ) (held : Row) → Holds rows.new.rows other at held
+        → Holds rows.old.rows other at held
+        ⊎ IsOfFill module.now header.now (slot % SLOTS) address other at held }
+    ensures none { result ≡ NONE → IsLookedUp module.now header.now address (Ok None) }
+    ensures refused { result ≡ REFUSED → (why : Why)
+        × IsLookedUp module.now header.now address (Err why) × (fault.new ≡ cfault_of IN_FRAME why) }
+    ensures room { result ≡ NO_ROOM → IsUsable module.now header.now }
+    ensures unusable { result ≢ DONE → result ≢ NONE → result ≢ REFUSED → result ≢ NO_ROOM
+        → result ≢ NO_PLACE → IsUnusable module.now header.now result }
+    ensures same { result ≢ DONE → result ≢ NO_PLACE → rows.new.rows ≡ rows.old.rows }
+    ensures unreported { result ≢ REFUSED → fault.new ≡ fault.old }
+{
+    let mut memory = LookUpMemory::new(alloc);
+    match look_up(module, header, address, &mut memory) {
+        Ok(Some(found)) => keep_row(rows, slot_of(slot), address, &found),
+        Ok(None) => NONE,
+        Err(why) => no_answer(why, fault),
+    }
+}
+
+/// Forgets the rows of the module with the slot `slot` modulo 64, which may then name another one.
+#[unsafe(no_mangle)]
+pub extern "C" fn dwcheck_rows_forget(rows: &mut CachedRows, slot: u32)
+    ensures none { (address : ℕ) (row : Row) → Holds rows.new.rows (slot % SLOTS) address row → ⊥ }
+    ensures others { (other address : ℕ) (row : Row) → other ≢ slot % SLOTS
+        → Holds rows.new.rows other address row ↔ Holds rows.old.rows other address row }
+{
+    rows.forget(slot_of(slot));
+}
+
+/// Walks up a stack of x86-64 from `place`, with the rows of the modules whose slots have their bits
+/// in `confirmed`, and writes the addresses of the frames to `addresses`, as many as fit. `count`
+/// becomes their number, and `stop` why there are no more.
+#[unsafe(no_mangle)]
+pub extern "C" fn dwcheck_walk(
+    rows: &mut CachedRows,
+    confirmed: u64,
+    place: &mut StackPlace,
+    blocks: &[CBlock<'_>],
+    addresses: &mut [u64],
+    count: &mut usize,
+    stop: &mut u32,
+)
+    ensures passes { (stop.new ≡ stop_number Reason.Limit) ⊎ (MISSING ≤ stop.new)
+        → Passes (over_cached rows.old.rows confirmed (byte_in blocks.now)) (byte_in blocks.now)
+        place.old (take count.new addresses.new) place.new }
+    ensures ended { (why : Reason) → stop.new ≡ stop_number why → why ≢ Reason.Limit
+        → EndsAfter (over_cached rows.old.rows confirmed (byte_in blocks.now)) (byte_in blocks.now)
+        place.old (take count.new addresses.new) why }
+    ensures missing { stop.new ≡ MISSING → IfSome (address_before place.new.key)
+        (IsMissing rows.old.rows confirmed) }
+    ensures other { stop.new ≡ OTHER
+        → IsOther rows.old.rows confirmed (byte_in blocks.now) place.new }
+    ensures full { stop.new ≡ stop_number Reason.Limit → count.new ≡ length addresses.old }
+    ensures codes { (stop.new ≡ stop_number Reason.Limit) ⊎ (stop.new ≡ stop_number Reason.ReturnUndefined)
+        ⊎ (stop.new ≡ stop_number Reason.ReturnUnreadable) ⊎ (stop.new ≡ MISSING) ⊎ (stop.new ≡ OTHER) }
+    ensures few { count.new ≤ length addresses.old }
+    ensures same { rows.new.rows ≡ rows.old.rows }
+    ensures rest { drop count.new addresses.new ≡ drop count.new addresses.old }
+    ensures length { length addresses.new ≡ length addresses.old }
+{
+    let (found, end) = rows.walk(confirmed, place, &Blocks::new(blocks), addresses);
+    *count = found;
+    *stop = end_code(end);
+}
