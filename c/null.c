@@ -94,6 +94,30 @@ uint32_t dwcheck_step_in(const dwcheck_module *module, const dwcheck_header *hea
     return proved_dwcheck_step_in(&section, &table, cursor, &copy, frame, fault);
 }
 
+PROVED(dwcheck_rows_fill);
+uint32_t dwcheck_rows_fill(dwcheck_rows *rows, uint32_t slot, const dwcheck_module *module, const dwcheck_header *header,
+                           uint64_t address, dwcheck_fault *fault) {
+    if (module->frame && header->bytes) return proved_dwcheck_rows_fill(rows, slot, module, header, address, fault);
+    const dwcheck_module section = module->frame ? *module : with_address(module);
+    const dwcheck_header table = header->bytes ? *header : header_with_address(header);
+    return proved_dwcheck_rows_fill(rows, slot, &section, &table, address, fault);
+}
+
+PROVED(dwcheck_walk);
+void dwcheck_walk(dwcheck_rows *rows, uint64_t confirmed, dwcheck_place *place, const dwcheck_block *blocks,
+                  size_t blocks_length, uint64_t *addresses, size_t addresses_length, size_t *count, uint32_t *stop) {
+    proved_dwcheck_walk(rows, confirmed, place, OR_NOTHING(blocks), blocks_length, OR_NO_PLACE(addresses), addresses_length,
+                        count, stop);
+}
+
+PROVED(dwcheck_walk_frames);
+void dwcheck_walk_frames(dwcheck_rows *rows, uint64_t confirmed, dwcheck_register_place *place, const dwcheck_block *blocks,
+                         size_t blocks_length, dwcheck_register_frame *frames, size_t frames_length, size_t *count,
+                         uint32_t *stop) {
+    proved_dwcheck_walk_frames(rows, confirmed, place, OR_NOTHING(blocks), blocks_length, OR_NO_PLACE(frames), frames_length,
+                               count, stop);
+}
+
 PROVED(dwcheck_process_add);
 uint32_t dwcheck_process_add(dwcheck_process *process, const dwcheck_module *module, uint64_t *id, dwcheck_fault *fault) {
     if (module->frame) return proved_dwcheck_process_add(process, module, id, fault);

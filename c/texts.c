@@ -74,6 +74,8 @@ static const char *const stops[] = {
     [DWCHECK_STOP_RETURN_UNDEFINED] = "return undefined",
     [DWCHECK_STOP_RETURN_UNREADABLE] = "return unreadable",
     [DWCHECK_STOP_RETURN_DIVISION_BY_ZERO] = "return division by zero",
+    [DWCHECK_STOP_MISSING] = "missing",
+    [DWCHECK_STOP_OTHER] = "other",
 };
 
 #define TEXT(texts, number) ((number) < sizeof(texts) / sizeof *(texts) ? (texts)[number] : NULL)

@@ -13,7 +13,8 @@ export module dwcheck;
 export using ::dwcheck_fault, ::dwcheck_counts, ::dwcheck_expression, ::dwcheck_process,
     ::dwcheck_module, ::dwcheck_loaded, ::dwcheck_record, ::dwcheck_rule, ::dwcheck_row,
     ::dwcheck_block, ::dwcheck_state, ::dwcheck_answer, ::dwcheck_register, ::dwcheck_caller,
-    ::dwcheck_frame, ::dwcheck_cache, ::dwcheck_cursor, ::dwcheck_reader, ::dwcheck_header, ::dwcheck_context,
+    ::dwcheck_frame, ::dwcheck_cache, ::dwcheck_cursor, ::dwcheck_reader, ::dwcheck_header, ::dwcheck_rows, ::dwcheck_place,
+    ::dwcheck_register_place, ::dwcheck_register_frame, ::dwcheck_context,
     ::dwcheck_value, ::dwcheck_piece, ::dwcheck_lookup, ::dwcheck_location;
 
 // Calls.
@@ -23,7 +24,8 @@ export using ::dwcheck_version, ::dwcheck_fault_name, ::dwcheck_fault_text, ::dw
     ::dwcheck_module_check, ::dwcheck_record_at, ::dwcheck_row_at, ::dwcheck_is_signal_frame,
     ::dwcheck_rule_bytes, ::dwcheck_unwind, ::dwcheck_backtrace,
     ::dwcheck_backtrace_cached, ::dwcheck_cursor_init,
-    ::dwcheck_cursor_step, ::dwcheck_cursor_step_with, ::dwcheck_row_in, ::dwcheck_step_in, ::dwcheck_evaluate,
+    ::dwcheck_cursor_step, ::dwcheck_cursor_step_with, ::dwcheck_row_in, ::dwcheck_step_in,
+    ::dwcheck_rows_fill, ::dwcheck_rows_forget, ::dwcheck_walk, ::dwcheck_walk_frames, ::dwcheck_evaluate,
     ::dwcheck_locations, ::dwcheck_list_locations;
 
 // Constants.
@@ -40,7 +42,7 @@ export using ::DWCHECK_RULE_UNDEFINED, ::DWCHECK_RULE_SAME_VALUE, ::DWCHECK_RULE
 export using ::DWCHECK_ANSWER_NOT_COVERED, ::DWCHECK_ANSWER_VALUE, ::DWCHECK_ANSWER_UNDEFINED,
     ::DWCHECK_ANSWER_UNREADABLE, ::DWCHECK_ANSWER_DIVISION_BY_ZERO;
 export using ::DWCHECK_STOP_LIMIT, ::DWCHECK_STOP_NOT_COVERED, ::DWCHECK_STOP_RETURN_UNDEFINED,
-    ::DWCHECK_STOP_RETURN_UNREADABLE, ::DWCHECK_STOP_RETURN_DIVISION_BY_ZERO;
+    ::DWCHECK_STOP_RETURN_UNREADABLE, ::DWCHECK_STOP_RETURN_DIVISION_BY_ZERO, ::DWCHECK_STOP_MISSING, ::DWCHECK_STOP_OTHER;
 export using ::DWCHECK_CURSOR_EXACT, ::DWCHECK_CURSOR_CALLER;
 export using ::DWCHECK_EXPRESSION_CFA, ::DWCHECK_EXPRESSION_REGISTER, ::DWCHECK_EXPRESSION_LOCATION;
 export using ::DWCHECK_OUTCOME_VALUE, ::DWCHECK_OUTCOME_UNREADABLE,

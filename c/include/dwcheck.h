@@ -428,6 +428,65 @@ uint32_t dwcheck_row_in(const dwcheck_module *module, const dwcheck_header *head
 uint32_t dwcheck_step_in(const dwcheck_module *module, const dwcheck_header *header, dwcheck_cursor *cursor,
                          const dwcheck_state *state, dwcheck_frame *frame, dwcheck_fault *fault);
 
+/* ---- walks that recur ---------------------------------------------------------------------------------------------- */
+/* Rows of modules of x86-64, kept for walks in which the same functions recur, as in a profiler or an allocator. It is
+   plain data that the caller owns, with nothing to free. Any initialized bytes are valid; start with zeros. No two calls
+   may use the same rows at once, so each thread needs its own, and so does a signal handler that may interrupt a call.
+
+   Each row is that of a module: the caller gives each module a slot, a number below 64. A walk uses only the rows of
+   slots that the caller has confirmed for it, by the bits of a mask: that the slot's module is still loaded where it
+   was. So the caller owes one thing: a slot names one module, from the first dwcheck_rows_fill until
+   dwcheck_rows_forget. */
+typedef struct dwcheck_rows { uint64_t words[3361]; } dwcheck_rows;
+
+/* Looks `address` up in place, as dwcheck_row_in does, and keeps its row, which is the module's with the slot
+   `slot` % 64. The row may take the place of another one. Returns DONE; NO_PLACE if there is a row that can't be kept,
+   at which walks stop: one with an expression, say, or that of a signal frame; or any other status that dwcheck_row_in
+   returns, and then the rows are as they were. */
+uint32_t dwcheck_rows_fill(dwcheck_rows *rows, uint32_t slot, const dwcheck_module *module, const dwcheck_header *header,
+                           uint64_t address, dwcheck_fault *fault);
+
+/* Forgets the rows of the slot `slot` % 64, which may then name another module. */
+void dwcheck_rows_forget(dwcheck_rows *rows, uint32_t slot);
+
+/* Where a walk with kept rows is: at the frame at `address`. The address that is looked up for it is `key` - 1; so for
+   the first frame `key` is its address plus 1, and for a caller it is the return address, as `address` is. The content
+   of rsp is `stack_pointer`. That of rbp is frame_pointer if is_saved is 0, else it is in memory at that address. A
+   place is plain data of the caller's: any bytes are a place. */
+typedef struct dwcheck_place {
+    uint64_t address, key, stack_pointer, frame_pointer; uint32_t is_saved, reserved;
+} dwcheck_place;
+
+/* More reasons why a walk stops, for dwcheck_walk alone. */
+enum {
+    DWCHECK_STOP_MISSING = 5, /* no row is kept for the frame: fill in that of the address `key` - 1, and go on */
+    DWCHECK_STOP_OTHER = 6    /* the frame needs a step of a cursor, since its row can't be kept, or rbp isn't known */
+};
+
+/* Walks up the stack from `place` with the rows of the slots whose bits are set in `confirmed`, and writes the addresses
+   of the frames to `addresses`, the innermost first, as many as fit. `count` becomes their number, and `stop` the reason
+   why there are no more: LIMIT, RETURN_UNDEFINED, RETURN_UNREADABLE, MISSING or OTHER. `place` becomes that of the next
+   frame, from which a walk can go on; after RETURN_UNDEFINED and RETURN_UNREADABLE there is none. The frames are those
+   of the definition of walks, with these rows and with x86-64's callee-saved registers. Nothing is allocated, and the
+   call takes less than 1 KB of stack, so it may be made in a signal handler. */
+void dwcheck_walk(dwcheck_rows *rows, uint64_t confirmed, dwcheck_place *place, const dwcheck_block *blocks,
+                  size_t blocks_length, uint64_t *addresses, size_t addresses_length, size_t *count, uint32_t *stop);
+
+/* Where a walk is that gives registers: as a dwcheck_place, with the contents of rsp and of the callee-saved registers. */
+typedef struct dwcheck_register_place {
+    uint64_t address, key, stack_pointer, rbx, rbp, r12, r13, r14, r15;
+} dwcheck_register_place;
+
+/* A frame: where the walk was at it, and its CFA. */
+typedef struct dwcheck_register_frame { dwcheck_register_place place; uint64_t cfa; } dwcheck_register_frame;
+
+/* Walks as dwcheck_walk does, and writes each frame with its registers and its CFA. OTHER also says that a register is
+   saved where memory isn't known. A cursor takes a step from `place` once its contents are those of the place, and its
+   stage is EXACT if `key` is `address` plus 1, else CALLER; then the walk goes on from the cursor's frame. */
+void dwcheck_walk_frames(dwcheck_rows *rows, uint64_t confirmed, dwcheck_register_place *place, const dwcheck_block *blocks,
+                         size_t blocks_length, dwcheck_register_frame *frames, size_t frames_length, size_t *count,
+                         uint32_t *stop);
+
 /* ---- expressions --------------------------------------------------------------------------------------------------- */
 /* What an expression is used for (`kind`): the rule of a CFA, the rule of a register, or the location of an object.
    The stack begins with the CFA for the rule of a register, and is empty at first for the others. */

@@ -202,7 +202,7 @@ static void texts(void) {
     IS(strstr(dwcheck_fault_text(19), "6.4.2.2") != NULL, 1);
     IS(dwcheck_fault_text(8) == NULL, 1); IS(dwcheck_fault_text(UINT32_MAX) == NULL, 1);
     IS(strcmp(dwcheck_status_text(DWCHECK_NO_MEMORY), "out of memory"), 0); IS(dwcheck_status_text(12) == NULL, 1);
-    IS(strcmp(dwcheck_stop_text(DWCHECK_STOP_NOT_COVERED), "not covered"), 0); IS(dwcheck_stop_text(5) == NULL, 1);
+    IS(strcmp(dwcheck_stop_text(DWCHECK_STOP_NOT_COVERED), "not covered"), 0); IS(dwcheck_stop_text(7) == NULL, 1);
     for (uint32_t number = 0; number < 100; number++) { /* each fault with a name has a text */
         size_t size;
         IS(dwcheck_fault_text(number) != NULL, dwcheck_fault_name(number, NULL, 0, &size) == DWCHECK_DONE);

@@ -31,10 +31,10 @@ frames-snoc u (Some p) (g ∷ frames) q f are is at =
 -- ---- the frame of a usable entry
 
 -- a row for which a packed one stands
-abbrev row-of : PackedRow → Row
+abbrev pub row-of : PackedRow → Row
 row-of p = record { start = 0; end = 0; cfa = Some (register_and_offset (p.form % LAST) p.cfa_offset); rules = rules_of p }
 
-is-row : (p : PackedRow) → p.form ≢ 0 → IsRowOf p (row-of p)
+pub is-row : (p : PackedRow) → p.form ≢ 0 → IsRowOf p (row-of p)
 is-row p some = record { some = some; cfa = refl; rules = refl }
 
 both : (a b : Bool) → (a && b) ≡ true → (a ≡ true) × (b ≡ true)
@@ -63,14 +63,14 @@ unwinds rows confirmed (suc a) i memory q caller some lt usable form is =
       is,
     )
 
-frame-here : (rows : List PackedRow) (confirmed i : ℕ) (memory : ℕ → Option ℕ) (here : StackPlace) (q : Place) (caller : Caller)
-    → IsAt memory here q → here.key ≢ 0 → i < ROWS → is_usable confirmed here.key (entry_at rows i) ≡ true
+pub frame-here : (rows : List PackedRow) (confirmed key i : ℕ) (memory : ℕ → Option ℕ) (q : Place) (caller : Caller)
+    → q.looked_up ≡ address_before key → key ≢ 0 → i < ROWS → is_usable confirmed key (entry_at rows i) ≡ true
     → (entry_at rows i).form ≢ 0 → IsCallerFrom memory (row-of (entry_at rows i)) q caller
     → IsFrameAt (over_cached rows confirmed memory) q (record { address = q.address; caller = Some caller })
-frame-here rows confirmed i memory here q caller at some lt usable form is = (
+frame-here rows confirmed key i memory q caller looked_up some lt usable form is = (
   refl,
-  subst (λ (o : Option ℕ). UnwindsAt (over_cached rows confirmed memory) q.registers o (Some caller)) (sym at.looked_up)
-      (unwinds rows confirmed here.key i memory q caller some lt usable form is),
+  subst (λ (o : Option ℕ). UnwindsAt (over_cached rows confirmed memory) q.registers o (Some caller)) (sym looked_up)
+      (unwinds rows confirmed key i memory q caller some lt usable form is),
 )
 
 addresses-snoc : (frames : List WalkedFrame) (f : WalkedFrame) (xs : List ℕ) (x : ℕ) → addresses_of frames ≡ xs → f.address ≡ x
@@ -94,7 +94,7 @@ passes-next rows confirmed i memory from here next xs some lt usable form says p
     let step = says q (row-of (entry_at rows i)) at-q (is-row (entry_at rows i) form) in
     let f : WalkedFrame = record { address = q.address; caller = Some step.0 } in
     let more = frames-snoc u (Some p) frames q f passed.are passed.to_is
-    (frame-here rows confirmed i memory here q step.0 at-q some lt usable form step.1) in (
+    (frame-here rows confirmed here.key i memory q step.0 at-q.looked_up some lt usable form step.1) in (
       frames ++ f ∷ [],
       step.2,
       record { are = more.0; to_is = more.1 ∙ step.3 },
@@ -117,7 +117,7 @@ ends-next rows confirmed i memory from here xs stop some lt usable form says pas
         place = q;
         last = f;
         passed = passed;
-        is = frame-here rows confirmed i memory here q step.0 at-q some lt usable form step.1;
+        is = frame-here rows confirmed here.key i memory q step.0 at-q.looked_up some lt usable form step.1;
         ends = step.2;
         all = refl;
       },

@@ -72,7 +72,7 @@ saving-of p lt = rw lt refl
 pub last-of : (p : PackedRow) → nat_lt p.form LAST ≡ false → rules_of p ≡ last_rules
 last-of p ge = rw ge refl
 
--- the rules of rbp, of the stack pointer and of the return address
+-- the rules of the callee-saved registers, of the stack pointer and of the return address
 pub rbp-rule : (p : PackedRow) → rule_in (saving_rules p) 6 ≡ rule_by p.rbp
 rbp-rule p = skip 3 6 p.rbx _ refl
     ∙ own 6 p.rbp _ refl (skip 12 6 p.r12 _ refl ∙ skip 13 6 p.r13 _ refl ∙ skip 14 6 p.r14 _ refl ∙ skip 15 6 p.r15 _ refl)
@@ -84,3 +84,22 @@ rsp-rule p = skip 3 7 p.rbx _ refl ∙ skip 6 7 p.rbp _ refl ∙ skip 12 7 p.r12
 pub return-rule : (p : PackedRow) → rule_in (saving_rules p) 16 ≡ offset (negsuc 7)
 return-rule p = skip 3 16 p.rbx _ refl ∙ skip 6 16 p.rbp _ refl ∙ skip 12 16 p.r12 _ refl ∙ skip 13 16 p.r13 _ refl
     ∙ skip 14 16 p.r14 _ refl ∙ skip 15 16 p.r15 _ refl
+
+pub rbx-rule : (p : PackedRow) → rule_in (saving_rules p) 3 ≡ rule_by p.rbx
+rbx-rule p = own 3 p.rbx _ refl (skip 6 3 p.rbp _ refl ∙ skip 12 3 p.r12 _ refl ∙ skip 13 3 p.r13 _ refl ∙ skip 14 3 p.r14 _ refl ∙ skip 15 3 p.r15 _ refl)
+
+pub r12-rule : (p : PackedRow) → rule_in (saving_rules p) 12 ≡ rule_by p.r12
+r12-rule p = skip 3 12 p.rbx _ refl ∙ skip 6 12 p.rbp _ refl
+    ∙ own 12 p.r12 _ refl (skip 13 12 p.r13 _ refl ∙ skip 14 12 p.r14 _ refl ∙ skip 15 12 p.r15 _ refl)
+
+pub r13-rule : (p : PackedRow) → rule_in (saving_rules p) 13 ≡ rule_by p.r13
+r13-rule p = skip 3 13 p.rbx _ refl ∙ skip 6 13 p.rbp _ refl ∙ skip 12 13 p.r12 _ refl
+    ∙ own 13 p.r13 _ refl (skip 14 13 p.r14 _ refl ∙ skip 15 13 p.r15 _ refl)
+
+pub r14-rule : (p : PackedRow) → rule_in (saving_rules p) 14 ≡ rule_by p.r14
+r14-rule p = skip 3 14 p.rbx _ refl ∙ skip 6 14 p.rbp _ refl ∙ skip 12 14 p.r12 _ refl ∙ skip 13 14 p.r13 _ refl
+    ∙ own 14 p.r14 _ refl (skip 15 14 p.r15 _ refl)
+
+pub r15-rule : (p : PackedRow) → rule_in (saving_rules p) 15 ≡ rule_by p.r15
+r15-rule p = skip 3 15 p.rbx _ refl ∙ skip 6 15 p.rbp _ refl ∙ skip 12 15 p.r12 _ refl ∙ skip 13 15 p.r13 _ refl ∙ skip 14 15 p.r14 _ refl
+    ∙ own 15 p.r15 _ refl (refl)

@@ -26,11 +26,11 @@ Callers = (e : World) (abi : Abi) (column : ℕ) (row : Row) (base content : ℕ
     → AreDirect row.rules → row.cfa ≡ Some (register_and_offset base by) → e.registers base ≡ Some content
     → HasDirectCaller e abi column row (number_plus e by content)
 
-names : NamesRegisters x86_64
+pub names : NamesRegisters x86_64
 names r le = grind (arith, nat_tests, le)
 
 -- the world of a frame
-abbrev world : (ℕ → Option ℕ) → Place → World
+abbrev pub world : (ℕ → Option ℕ) → Place → World
 world memory p = machine little_64 p.registers memory
 
 -- a row that was packed gives a caller, if the register of its CFA has a content
@@ -47,15 +47,15 @@ caller-by callers memory packed full p base is known =
 mod-id : (n : ℕ) → n < 2 ^ 64 → n % 2 ^ 64 ≡ n
 mod-id n lt = omega (arith, lt)
 
-same-number : (n : ℕ) → n < 2 ^ 64 → wrap 64 (pos n +ℤ pos 0) ≡ n
+pub same-number : (n : ℕ) → n < 2 ^ 64 → wrap 64 (pos n +ℤ pos 0) ≡ n
 same-number n lt = mod-id (n + 0) (omega (arith, lt)) ∙ omega arith
 
-abbrev Fits : Option ℕ → Type 0
+abbrev pub Fits : Option ℕ → Type 0
 Fits None = Unit {0}
 Fits (Some n) = n < 2 ^ 64
 
 -- what a register that keeps its content has in the caller
-kept-content : (memory : ℕ → Option ℕ) (p : Place) (o : Option ℕ) → Fits o → content_of (content_plus (world memory p) (pos 0) o) ≡ o
+pub kept-content : (memory : ℕ → Option ℕ) (p : Place) (o : Option ℕ) → Fits o → content_of (content_plus (world memory p) (pos 0) o) ≡ o
 kept-content memory p None fits = refl
 kept-content memory p (Some n) fits = ap (λ (m : ℕ). Some m) (same-number n fits)
 
@@ -97,20 +97,20 @@ plus-below n z is = subst (λ (m : ℕ). m < 2 ^ 64) (sym is) (wrap-below z)
 -- ---- the registers of the caller
 
 -- what the rules of a packed row say of a register, with those of the ABI
-abbrev answer : (ℕ → Option ℕ) → Row → Place → ℕ → ℕ → Answer
+abbrev pub answer : (ℕ → Option ℕ) → Row → Place → ℕ → ℕ → Answer
 answer memory full p cfa r = answer_under (world memory p) x86_64 full cfa r
 
-by-rule : (memory : ℕ → Option ℕ) (full : Row) (p : Place) (cfa r : ℕ) (rule : Rule) → rule_in full.rules r ≡ rule
+pub by-rule : (memory : ℕ → Option ℕ) (full : Row) (p : Place) (cfa r : ℕ) (rule : Rule) → rule_in full.rules r ≡ rule
     → answer memory full p cfa r ≡ direct_answer (world memory p) cfa r (or_rule rule (rule_of_role (x86_64 r)))
 by-rule memory full p cfa r rule is =
     ap (λ (x : Rule). direct_answer (world memory p) cfa r (or_rule x (rule_of_role (x86_64 r)))) is
 
-rule-of : (full : Row) (packed : PackedRow) (r : ℕ) (rule : Rule) → IsRowOf packed full → nat_lt packed.form LAST ≡ true
+pub rule-of : (full : Row) (packed : PackedRow) (r : ℕ) (rule : Rule) → IsRowOf packed full → nat_lt packed.form LAST ≡ true
     → rule_in (saving_rules packed) r ≡ rule → rule_in full.rules r ≡ rule
 rule-of full packed r rule is lt in-saving =
     ap (λ (rules : List (ℕ × Rule)). rule_in rules r) (is.rules ∙ saving-of packed lt) ∙ in-saving
 
-pointer-after : (memory : ℕ → Option ℕ) (full : Row) (packed : PackedRow) (p : Place) (cfa : ℕ) → cfa < 2 ^ 64 → IsRowOf packed full
+pub pointer-after : (memory : ℕ → Option ℕ) (full : Row) (packed : PackedRow) (p : Place) (cfa : ℕ) → cfa < 2 ^ 64 → IsRowOf packed full
     → nat_lt packed.form LAST ≡ true → content_of (answer memory full p cfa 7) ≡ Some cfa
 pointer-after memory full packed p cfa below is lt =
     ap content_of (by-rule memory full p cfa 7 default (rule-of full packed 7 default is lt (rsp-rule packed)))
@@ -131,7 +131,7 @@ frame-pointer-after memory full packed p cfa here is fits row lt =
     ap content_of (by-rule memory full p cfa 6 (rule_by packed.rbp) (rule-of full packed 6 (rule_by packed.rbp) row lt (rbp-rule packed)))
     ∙ saved-after memory p cfa packed.rbp here is fits
 
-return-after : (memory : ℕ → Option ℕ) (full : Row) (packed : PackedRow) (p : Place) (cfa : ℕ) → IsRowOf packed full
+pub return-after : (memory : ℕ → Option ℕ) (full : Row) (packed : PackedRow) (p : Place) (cfa : ℕ) → IsRowOf packed full
     → nat_lt packed.form LAST ≡ true → content_of (answer memory full p cfa 16) ≡ word_at memory (wrap 64 (pos cfa +ℤ negsuc 7))
 return-after memory full packed p cfa is lt =
     ap content_of (by-rule memory full p cfa 16 (offset (negsuc 7)) (rule-of full packed 16 (offset (negsuc 7)) is lt (return-rule packed)))
@@ -142,7 +142,7 @@ low-form : (n : ℕ) → nat_lt n LAST ≡ true → n % LAST ≡ n
 low-form n lt = grind (arith, nat_tests, lt)
 
 -- the caller where the return address is saved
-saved-caller : Callers → (memory : ℕ → Option ℕ) (packed : PackedRow) (full : Row) (p : Place) (base cfa : ℕ)
+pub saved-caller : Callers → (memory : ℕ → Option ℕ) (packed : PackedRow) (full : Row) (p : Place) (base cfa : ℕ)
     → nat_lt packed.form LAST ≡ true → IsRowOf packed full → p.registers packed.form ≡ Some base
     → cfa ≡ wrap 64 (pos base +ℤ packed.cfa_offset) → HasDirectCaller (world memory p) x86_64 16 full cfa
 saved-caller callers memory packed full p base cfa lt is known cfa-is =
@@ -174,7 +174,7 @@ goes-on callers memory packed full here next p base cfa ra lt below cfa-is fits 
     )
 
 -- a word without a content is unreadable
-word-unreadable : (e : World) (a : ℕ) → content_of (word e a) ≡ None → word e a ≡ unreadable
+pub word-unreadable : (e : World) (a : ℕ) → content_of (word e a) ≡ None → word e a ≡ unreadable
 word-unreadable e a none = go (nat_le (a + bytes_of_address e.target.address_size) (2 ^ width e))
     (number_at e.memory e.target.order a (bytes_of_address e.target.address_size)) none
   where
@@ -198,7 +198,7 @@ unreadable-return callers memory packed full p base cfa lt cfa-is none is known 
       ap stop_of_return returns,
     )
 
-high-form : (n : ℕ) → n ≡ 135 → nat_lt n LAST ≡ false
+pub high-form : (n : ℕ) → n ≡ 135 → nat_lt n LAST ≡ false
 high-form n is = rw is refl
 
 -- a row whose return address is undefined, with the CFA by the stack pointer

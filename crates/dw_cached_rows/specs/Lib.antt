@@ -8,3 +8,5 @@ pub mod CachedRows
 
 -- where a walk is that gives addresses alone, and what it does with a cache
 pub mod CachedWalks
+-- the same, with registers
+pub mod RegisterWalks

@@ -6,10 +6,13 @@ mod cached_rows;
 mod keep;
 pub mod laws;
 mod packed_row;
+mod register_place;
+mod register_walk;
 mod stack_place;
 mod walk;
 
 pub use cached_rows::CachedRows;
 pub use packed_row::{PackedRow, SLOTS};
+pub use register_place::{FrameWithRegisters, RegisterPlace};
 pub use stack_place::StackPlace;
 pub use walk::WalkEnd;

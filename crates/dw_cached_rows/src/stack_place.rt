@@ -34,7 +34,7 @@ pub struct StackPlace {
 const _: () = prove!(size_of::<StackPlace>() == 40);
 
 /// The form of a row whose return address is undefined, and whose CFA's register is rsp.
-const LAST_BY_RSP: u16 = LAST as u16 + RSP;
+pub(crate) const LAST_BY_RSP: u16 = LAST as u16 + RSP;
 
 /// What a row says of a frame.
 #[derive(Clone, Copy, Debug, PartialEq, Eq)]
@@ -51,7 +51,7 @@ pub(crate) enum Step {
 
 /// The sum of a number and an offset, modulo 2^64.
 #[inline(always)]
-fn plus(number: u64, offset: i64) -> u64
+pub(crate) fn plus(number: u64, offset: i64) -> u64
     ensures { result ≡ wrap 64 (pos number +ℤ offset) }
 {
     let width = Width {
@@ -62,7 +62,7 @@ fn plus(number: u64, offset: i64) -> u64
 
 /// The 8 bytes at an address as a number. None if one of them isn't known.
 #[inline(always)]
-fn word<M: Memory>(memory: &M, address: u64) -> Option<u64>
+pub(crate) fn word<M: Memory>(memory: &M, address: u64) -> Option<u64>
     ensures { result ≡ word_at (M.bytes memory.now) address }
 {
     if address > u64::MAX - 7 {

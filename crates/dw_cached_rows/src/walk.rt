@@ -29,7 +29,7 @@ pub enum WalkEnd {
 
 /// The index of the entry with a key, for a module that is confirmed: first by the guess at `last`.
 #[inline(always)]
-fn locate(
+pub(crate) fn locate(
     rows: &[PackedRow; ROWS],
     next: &mut [u16; ROWS + 1],
     last: usize,

@@ -11,6 +11,7 @@ ghost use Rattle.dw_eh_frame.specs.Views.{eh_fde_of};
 ghost use Rattle.dw_unwind.specs.declared.frames.Stop.{Stop as Reason};
 ghost use Rattle.dw_cached_rows.specs.CachedRows.{Holds, HoldsInSet, IsKept, IsMissing};
 ghost use Rattle.dw_cached_rows.specs.CachedWalks.{EndsAfter, IsOther, Passes, over_cached};
+ghost use Rattle.dw_cached_rows.specs.RegisterWalks.{EndsWithRegisters, IsOtherWith, WalksWith};
 ghost use Rattle.dwcheck_c.specs.CachedFills.{IsFilled, IsOfFill, IsUsable as IsUsableRow, end_number};
 ghost use Rattle.dwcheck_c.specs.InPlaceLookUps.{IsLookedUp, IsUnusable, IsUsable};
 
@@ -21,7 +22,7 @@ use dw_c_types::answer::stop_code;
 use dw_c_types::fault::{CFault, IN_FRAME};
 use dw_c_types::memory::{Blocks, CBlock};
 use dw_c_types::status::{DONE, NO_PLACE, NO_ROOM, NONE, REFUSED};
-use dw_cached_rows::{CachedRows, SLOTS, StackPlace, WalkEnd};
+use dw_cached_rows::{CachedRows, FrameWithRegisters, RegisterPlace, SLOTS, StackPlace, WalkEnd};
 use dw_in_place::LookUpMemory;
 use dw_unwind::Stop;
 use std::alloc::Global;
@@ -165,6 +166,43 @@ pub extern "C" fn dwcheck_walk(
     ensures length { length addresses.new ≡ length addresses.old }
 {
     let (found, end) = rows.walk(confirmed, place, &Blocks::new(blocks), addresses);
+    *count = found;
+    *stop = end_code(end);
+}
+
+/// Walks up a stack of x86-64 from `place` as `dwcheck_walk` does, and writes frames with their
+/// registers and their CFAs to `frames`, as many as fit.
+#[unsafe(no_mangle)]
+pub extern "C" fn dwcheck_walk_frames(
+    rows: &mut CachedRows,
+    confirmed: u64,
+    place: &mut RegisterPlace,
+    blocks: &[CBlock<'_>],
+    frames: &mut [FrameWithRegisters],
+    count: &mut usize,
+    stop: &mut u32,
+)
+    ensures walks { (stop.new ≡ stop_number Reason.Limit) ⊎ (MISSING ≤ stop.new)
+        → WalksWith (over_cached rows.old.rows confirmed (byte_in blocks.now)) place.old
+        (take count.new frames.new) place.new }
+    ensures ended { (why : Reason) → stop.new ≡ stop_number why → why ≢ Reason.Limit
+        → EndsWithRegisters (over_cached rows.old.rows confirmed (byte_in blocks.now)) place.old
+        (take count.new frames.new) why }
+    ensures missing { stop.new ≡ MISSING → IfSome (address_before place.new.key)
+        (IsMissing rows.old.rows confirmed) }
+    ensures other { stop.new ≡ OTHER
+        → IsOtherWith rows.old.rows confirmed (byte_in blocks.now) place.new }
+    ensures full { stop.new ≡ stop_number Reason.Limit → count.new ≡ length frames.old }
+    ensures codes { (stop.new ≡ stop_number Reason.Limit)
+        ⊎ (stop.new ≡ stop_number Reason.ReturnUndefined)
+        ⊎ (stop.new ≡ stop_number Reason.ReturnUnreadable)
+        ⊎ (stop.new ≡ MISSING) ⊎ (stop.new ≡ OTHER) }
+    ensures few { count.new ≤ length frames.old }
+    ensures same { rows.new.rows ≡ rows.old.rows }
+    ensures rest { drop count.new frames.new ≡ drop count.new frames.old }
+    ensures length { length frames.new ≡ length frames.old }
+{
+    let (found, end) = rows.walk_frames(confirmed, place, &Blocks::new(blocks), frames);
     *count = found;
     *stop = end_code(end);
 }

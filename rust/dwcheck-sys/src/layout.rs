@@ -62,6 +62,10 @@ fn layouts() -> (String, String) {
         layout!(Cursor, "dwcheck_cursor": contents known address stage reserved),
         layout!(Reader, "dwcheck_reader": read data order address_size),
         layout!(Header, "dwcheck_header": bytes length address),
+        layout!(Rows, "dwcheck_rows": words),
+        layout!(Place, "dwcheck_place": address key stack_pointer frame_pointer is_saved reserved),
+        layout!(RegisterPlace, "dwcheck_register_place": address key stack_pointer rbx rbp r12 r13 r14 r15),
+        layout!(RegisterFrame, "dwcheck_register_frame": place cfa),
         layout!(Context, "dwcheck_context": cfa frame_base object has_cfa has_frame_base has_object
             reserved),
         layout!(Value, "dwcheck_value": value kind offset steps count),
@@ -97,6 +101,7 @@ fn constants() -> (String, String) {
         STOP_RETURN_UNDEFINED "STOP_RETURN_UNDEFINED"
         STOP_RETURN_UNREADABLE "STOP_RETURN_UNREADABLE"
         STOP_RETURN_DIVISION_BY_ZERO "STOP_RETURN_DIVISION_BY_ZERO"
+        STOP_MISSING "STOP_MISSING" STOP_OTHER "STOP_OTHER"
         CURSOR_EXACT "CURSOR_EXACT" CURSOR_CALLER "CURSOR_CALLER"
         EXPRESSION_CFA "EXPRESSION_CFA" EXPRESSION_REGISTER "EXPRESSION_REGISTER" EXPRESSION_LOCATION "EXPRESSION_LOCATION"
         OUTCOME_VALUE "OUTCOME_VALUE" OUTCOME_UNREADABLE "OUTCOME_UNREADABLE"

@@ -26,10 +26,12 @@
 #![warn(rust_2018_idioms, unreachable_pub)]
 
 mod calls;
+mod kept_rows;
 #[cfg(test)]
 mod layout;
 
 pub use calls::*;
+pub use kept_rows::*;
 
 use std::mem::MaybeUninit;
 use std::os::raw::c_void;

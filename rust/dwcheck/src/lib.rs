@@ -52,6 +52,7 @@ mod fault;
 mod ffi;
 mod frame_section;
 mod in_place;
+mod kept_rows;
 #[cfg(test)]
 mod layout;
 mod lists;
@@ -77,6 +78,7 @@ pub use expression::{
 pub use fault::{Error, Fault, FaultKind, Section};
 pub use frame_section::{Contents, FrameSection, Record, RecordKind, Records};
 pub use in_place::EhFrameInPlace;
+pub use kept_rows::{KeptRows, KeptStop, RegisterFrame, RegisterPlace, StackPlace};
 pub use lists::{list_locations, locations, Lookup};
 pub use module::{EhFrame, LoadedModule, Module, ModuleId};
 pub use process::Process;

@@ -145,6 +145,12 @@ unsafe impl Send for Block<'_> {}
 unsafe impl Sync for Block<'_> {}
 
 impl<'a> Block<'a> {
+    /// A pointer to the first one of these blocks, as the type that the library takes.
+    pub(crate) fn raw_slice(blocks: &[Block<'_>]) -> *const ffi::Block {
+        // `Block` is `repr(transparent)`, so it has the layout of its field, an `ffi::Block`
+        blocks.as_ptr().cast()
+    }
+
     /// A block with these bytes at the addresses from `base` on.
     pub const fn new(base: u64, bytes: &'a [u8]) -> Block<'a> {
         Block {
@@ -199,8 +205,7 @@ impl State<'_> {
             contents_length: self.registers.contents.len(),
             known: self.registers.known.as_ptr(),
             known_length: self.registers.known.len(),
-            // `Block` is `repr(transparent)`, so it has the layout of its field, an `ffi::Block`
-            blocks: self.memory.as_ptr().cast(),
+            blocks: Block::raw_slice(self.memory),
             blocks_length: self.memory.len(),
             kept: self.abi.kept.as_ptr(),
             kept_length: self.abi.kept.len(),

@@ -1,0 +1,18 @@
+use Rattle.std.proofs.Common.{length, ◌-◌, ◌≡◌, ◌≤◌, drop, take}
+use Rattle.dw_cached_rows.specs.CachedWalks.{over_cached}
+use Rattle.dw_cached_rows.specs.RegisterWalks.{WalksWith}
+use Rattle.dw_cached_rows.specs.declared.cached_rows.TheConstants.{ROWS}
+use Rattle.dw_cached_rows.proofs.cached_rows.CachedRows.walk_frames.Given as goal
+
+abbrev pub invariant-loop-count : goal.invariant-loop-count
+invariant-loop-count g l = record {
+  few : l.count ≤ length l.frames;
+  same_length : length l.frames ≡ length l.fn.frames;
+  last : l.last ≤ ROWS;
+  rows : l.self.rows ≡ l.fn.self.rows;
+  walks : WalksWith (over_cached l.fn.self.rows l.confirmed (g.M.Memory.bytes l.memory)) l.fn.place (take l.count l.frames) l.here;
+  rest : drop l.count l.frames ≡ drop l.count l.fn.frames;
+}
+
+abbrev pub decreases-loop-count : goal.decreases-loop-count
+decreases-loop-count g l = length l.initial.frames - l.count
