@@ -9,7 +9,8 @@
 # bench_walk searches before the modules of the program. If Debian's libdw-dev is installed, elfutils'
 # dwfl_getthread_frames is timed on the same stack. These variables may be set:
 #   PREFIX   the folder to which `make install` installed libdwcheck: then dwcheck_backtrace,
-#            dwcheck_backtrace_cached and dwcheck_row_at are timed too
+#            dwcheck_backtrace_cached and dwcheck_row_at are timed too, and kept_rows.c times walks with
+#            kept rows beside unw_backtrace
 #   WORK     a folder; what is built stays there
 #   LIBRARY  a file to link instead of building crates/dw_times
 # This needs the kit (rt), x86-64, gcc and Debian's libunwind-dev (apt-get install libunwind-dev).
@@ -42,4 +43,8 @@ gcc "${flags[@]}" -pie -fPIE "$here/walks.c" "$library" "$kit/c/liblibc_c.a" -L"
 for file in walks libthrough.so; do
     objcopy --dump-section ".debug_frame=$work/$file.frame" "$work/$file" /dev/null
 done
+if [ -n "${PREFIX:-}" ]; then
+    gcc "${flags[@]}" -pie -fPIE "$here/kept_rows.c" "${through_c[@]}" -lunwind -pthread -ldl -o "$work/kept_rows"
+    "$work/kept_rows"
+fi
 exec "$work/walks" "$work/walks.frame" "$work/libthrough.so.frame" "$@"
