@@ -161,7 +161,10 @@ impl<'a> EhFrameInPlace<'a> {
 
     /// The section and its header as C structures, whose pointers are valid as long as the bytes.
     pub(crate) fn raw(&self) -> (ffi::Module, ffi::Header) {
-        (self.module.raw(self.section, self.target), self.raw_header())
+        (
+            self.module.raw(self.section, self.target),
+            self.raw_header(),
+        )
     }
 
     /// The header as a C structure, whose pointer is valid as long as the header's bytes.

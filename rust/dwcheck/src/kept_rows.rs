@@ -83,7 +83,7 @@ impl StackPlace {
 }
 
 /// Where a walk that gives registers is: the fields are those of C's structure.
-pub use crate::ffi::{RegisterFrame, RegisterPlace};
+pub use dwcheck_sys::{RegisterFrame, RegisterPlace};
 
 /// Why a walk with kept rows stopped.
 #[derive(Clone, Copy, Debug, PartialEq, Eq, Hash)]

@@ -8,6 +8,7 @@ mod expressions;
 mod fault_names;
 mod hostile;
 mod in_place;
+mod kept_rows;
 mod lists;
 mod modules;
 mod reading;
