@@ -481,11 +481,19 @@ typedef struct dwcheck_register_place {
 typedef struct dwcheck_register_frame { dwcheck_register_place place; uint64_t cfa; } dwcheck_register_frame;
 
 /* Walks as dwcheck_walk does, and writes each frame with its registers and its CFA. OTHER also says that a register is
-   saved where memory isn't known. A cursor takes a step from `place` once its contents are those of the place, and its
-   stage is EXACT if `key` is `address` plus 1, else CALLER; then the walk goes on from the cursor's frame. */
+   saved where memory isn't known. After OTHER a cursor takes a step (dwcheck_cursor_at_place, dwcheck_step_in), and the
+   walk goes on where the cursor is (dwcheck_place_of_cursor). */
 void dwcheck_walk_frames(dwcheck_rows *rows, uint64_t confirmed, dwcheck_register_place *place, const dwcheck_block *blocks,
                          size_t blocks_length, dwcheck_register_frame *frames, size_t frames_length, size_t *count,
                          uint32_t *stop);
+
+/* Places a cursor where a walk with registers is: its address, its stage, and the registers of the place; no other is
+   known. Returns DONE; or NO_PLACE if `key` is neither `address` nor `address` plus 1. */
+uint32_t dwcheck_cursor_at_place(dwcheck_cursor *cursor, const dwcheck_register_place *place);
+
+/* Makes `place` that of the frame that a cursor is at, so that a walk with registers goes on there. Returns DONE; NONE if
+   the cursor's walk has ended; or NO_PLACE if a register of a place isn't known. */
+uint32_t dwcheck_place_of_cursor(dwcheck_register_place *place, const dwcheck_cursor *cursor);
 
 /* ---- expressions --------------------------------------------------------------------------------------------------- */
 /* What an expression is used for (`kind`): the rule of a CFA, the rule of a register, or the location of an object.

@@ -12,7 +12,7 @@ mod stack_place;
 mod walk;
 
 pub use cached_rows::CachedRows;
-pub use packed_row::{PackedRow, SLOTS};
+pub use packed_row::{PackedRow, R12, R13, R14, R15, RBP, RBX, RSP, SLOTS};
 pub use register_place::{FrameWithRegisters, RegisterPlace};
 pub use stack_place::StackPlace;
 pub use walk::WalkEnd;

@@ -1,12 +1,13 @@
 -- Rows that C keeps for walks that recur, and why such a walk ends.
-use Rattle.std.specs.Prelude.{◌≡◌, ℕ, false, List}
+use Rattle.std.specs.Prelude.{◌≡◌, ℕ, false, List, Option, Some}
 use Rattle.dw_bytes.specs.declared.target.Target.{Target}
 use Rattle.dw_rules.specs.Rules.{Row}
 use Rattle.dw_eh_frame.specs.Records.{EhFde}
 use Rattle.dw_c_types.specs.Frames.{stop_number}
 use Rattle.dw_unwind.specs.declared.frames.Stop.TheVariants as stops
 use Rattle.dw_cached_rows.specs.declared.packed_row.PackedRow.{PackedRow}
-use Rattle.dw_cached_rows.specs.declared.packed_row.TheConstants.{RETURN_ADDRESS}
+use Rattle.dw_cached_rows.specs.declared.packed_row.TheConstants.{R12, R13, R14, R15, RBP, RBX, RETURN_ADDRESS, RSP}
+use Rattle.dw_cached_rows.specs.declared.register_place.RegisterPlace.{RegisterPlace}
 use Rattle.dw_cached_rows.specs.declared.walk.WalkEnd.{WalkEnd}
 use Rattle.dw_cached_rows.specs.declared.walk.WalkEnd.TheVariants as ends
 use Rattle.dw_cached_rows.specs.CachedRows.{HasRulesOf, HoldsInSet}
@@ -53,3 +54,15 @@ pub record IsOfFill (m : CModule) (h : CHeader) (slot address other at : ℕ) (h
   pub row : Row
   pub has : HasUsableRow m h address row
   pub rules : HasRulesOf held row
+
+-- ---- cursors
+
+-- the contents of the registers that a walk keeps are those of the place
+pub record AreIn (place : RegisterPlace) (contents : ℕ → Option ℕ) : Type 0 where
+  pub pointer : contents RSP ≡ Some place.stack_pointer
+  pub rbx : contents RBX ≡ Some place.rbx
+  pub rbp : contents RBP ≡ Some place.rbp
+  pub r12 : contents R12 ≡ Some place.r12
+  pub r13 : contents R13 ≡ Some place.r13
+  pub r14 : contents R14 ≡ Some place.r14
+  pub r15 : contents R15 ≡ Some place.r15

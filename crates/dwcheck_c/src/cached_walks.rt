@@ -11,10 +11,13 @@ ghost use Rattle.dw_eh_frame.specs.Views.{eh_fde_of};
 ghost use Rattle.dw_unwind.specs.declared.frames.Stop.{Stop as Reason};
 ghost use Rattle.dw_cached_rows.specs.CachedRows.{Holds, HoldsInSet, IsKept, IsMissing};
 ghost use Rattle.dw_cached_rows.specs.CachedWalks.{EndsAfter, IsOther, Passes, over_cached};
-ghost use Rattle.dw_cached_rows.specs.RegisterWalks.{EndsWithRegisters, IsOtherWith, WalksWith};
-ghost use Rattle.dwcheck_c.specs.CachedFills.{IsFilled, IsOfFill, IsUsable as IsUsableRow, end_number};
+ghost use Rattle.dw_cached_rows.specs.RegisterWalks.{EndsWithRegisters, IsOtherWith, IsWith, WalksWith};
+ghost use Rattle.dw_unwind.specs.Contents.{contents_in};
+ghost use Rattle.dwcheck_c.specs.WalkCursors.{looked_up_by, place_of};
+ghost use Rattle.dwcheck_c.specs.CachedFills.{AreIn, IsFilled, IsOfFill, IsUsable as IsUsableRow, end_number};
 ghost use Rattle.dwcheck_c.specs.InPlaceLookUps.{IsLookedUp, IsUnusable, IsUsable};
 
+use crate::cursor::{CALLER, CCursor, EXACT};
 use crate::in_place::{CHeader, FoundInPlace, look_up, no_answer};
 use crate::module::CModule;
 use dw_bytes::{AddressSize, Order, Target};
@@ -22,9 +25,13 @@ use dw_c_types::answer::stop_code;
 use dw_c_types::fault::{CFault, IN_FRAME};
 use dw_c_types::memory::{Blocks, CBlock};
 use dw_c_types::status::{DONE, NO_PLACE, NO_ROOM, NONE, REFUSED};
-use dw_cached_rows::{CachedRows, FrameWithRegisters, RegisterPlace, SLOTS, StackPlace, WalkEnd};
+use dw_cached_rows::{
+    CachedRows, FrameWithRegisters, R12, R13, R14, R15, RBP, RBX, RSP, RegisterPlace, SLOTS,
+    StackPlace, WalkEnd,
+};
+use dw_eval::Registers;
 use dw_in_place::LookUpMemory;
-use dw_unwind::Stop;
+use dw_unwind::{RegisterFile, Stop};
 use std::alloc::Global;
 
 /// Why a walk with cached rows stops: the cache has no row for the frame that it is at.
@@ -205,4 +212,109 @@ pub extern "C" fn dwcheck_walk_frames(
     let (found, end) = rows.walk_frames(confirmed, place, &Blocks::new(blocks), frames);
     *count = found;
     *stop = end_code(end);
+}
+
+/// Whether a place is that of a frame which is looked up at its own address: then the stage of a
+/// cursor there is `EXACT`. None if the frame is looked up at neither of the addresses that a cursor
+/// may look up.
+fn stage_of(place: &RegisterPlace) -> Option<u32>
+    ensures { IfSome result (λ stage. (stage ≤ CALLER)
+        × (looked_up_by stage place.now.address ≡ address_before place.now.key)) }
+{
+    if place.key == place.address {
+        return Some(CALLER);
+    }
+    if place.address.checked_add(1) == Some(place.key) {
+        return Some(EXACT);
+    }
+    None
+}
+
+/// The registers of a place.
+fn registers_of(place: &RegisterPlace) -> RegisterFile
+    ensures pointer { contents_in result RSP ≡ Some place.now.stack_pointer }
+    ensures rbx { contents_in result RBX ≡ Some place.now.rbx }
+    ensures rbp { contents_in result RBP ≡ Some place.now.rbp }
+    ensures r12 { contents_in result R12 ≡ Some place.now.r12 }
+    ensures r13 { contents_in result R13 ≡ Some place.now.r13 }
+    ensures r14 { contents_in result R14 ≡ Some place.now.r14 }
+    ensures r15 { contents_in result R15 ≡ Some place.now.r15 }
+{
+    let mut registers = RegisterFile::none();
+    registers.set(RSP, Some(place.stack_pointer));
+    registers.set(RBX, Some(place.rbx));
+    registers.set(RBP, Some(place.rbp));
+    registers.set(R12, Some(place.r12));
+    registers.set(R13, Some(place.r13));
+    registers.set(R14, Some(place.r14));
+    registers.set(R15, Some(place.r15));
+    registers
+}
+
+/// Places a cursor where a walk with registers is, so that it can take a step that the walk can't.
+/// `NO_PLACE` says that `key` is neither `address` nor `address` plus 1.
+#[unsafe(no_mangle)]
+pub extern "C" fn dwcheck_cursor_at_place(cursor: &mut CCursor, place: &RegisterPlace) -> u32
+    ensures with { result ≡ DONE → IsWith place.now (place_of cursor.new) }
+    ensures goes { result ≡ DONE → cursor.new.stage ≤ CALLER }
+    ensures codes { (result ≡ DONE) ⊎ (result ≡ NO_PLACE) }
+    ensures unwritten { result ≢ DONE → cursor.new ≡ cursor.old }
+{
+    let Some(stage) = stage_of(place) else {
+        return NO_PLACE;
+    };
+    cursor.registers = registers_of(place);
+    cursor.address = place.address;
+    cursor.stage = stage;
+    cursor.reserved = 0;
+    DONE
+}
+
+/// The place of a frame at `address` with these registers, where `key` is the address that is looked
+/// up plus 1. None if one of the registers that a walk keeps isn't known.
+fn place_with(registers: &RegisterFile, address: u64, key: u64) -> Option<RegisterPlace>
+    ensures { IfSome result (λ place. (place.address ≡ address) × (place.key ≡ key)
+        × AreIn place (contents_in registers.now)) }
+{
+    Some(RegisterPlace {
+        address,
+        key,
+        stack_pointer: registers.register(RSP)?,
+        rbx: registers.register(RBX)?,
+        rbp: registers.register(RBP)?,
+        r12: registers.register(R12)?,
+        r13: registers.register(R13)?,
+        r14: registers.register(R14)?,
+        r15: registers.register(R15)?,
+    })
+}
+
+/// The place of a cursor's frame, from which a walk with registers goes on. Returns `NONE` if the
+/// cursor's walk has ended, and `NO_PLACE` if a register that such a walk keeps isn't known.
+#[unsafe(no_mangle)]
+pub extern "C" fn dwcheck_place_of_cursor(place: &mut RegisterPlace, cursor: &CCursor) -> u32
+    ensures with { result ≡ DONE → IsWith place.new (place_of cursor.now) }
+    ensures none { result ≡ NONE → CALLER < cursor.now.stage }
+    ensures some { result ≢ NONE → cursor.now.stage ≤ CALLER }
+    ensures codes { (result ≡ DONE) ⊎ (result ≡ NONE) ⊎ (result ≡ NO_PLACE) }
+    ensures unwritten { result ≢ DONE → place.new ≡ place.old }
+{
+    if cursor.stage > CALLER {
+        return NONE;
+    }
+    let key = if cursor.stage == EXACT {
+        cursor.address.wrapping_add(1)
+    } else {
+        cursor.address
+    };
+    if cursor.stage == EXACT && key == 0 {
+        return NO_PLACE;
+    }
+    match place_with(&cursor.registers, cursor.address, key) {
+        Some(found) => {
+            *place = found;
+            DONE
+        }
+        None => NO_PLACE,
+    }
 }

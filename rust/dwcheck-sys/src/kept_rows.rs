@@ -1,6 +1,6 @@
 //! Rows that are kept for walks that recur, and the calls that use them.
 
-use crate::{Block, Fault, Header, Module};
+use crate::{Block, Cursor, Fault, Header, Module};
 
 /// Rows of modules of x86-64 for walks. Each is that of a module, which the caller gives a slot, a
 /// number below 64; a slot names one module, from the first dwcheck_rows_fill until
@@ -105,4 +105,12 @@ extern "C" {
         count: *mut usize,
         stop: *mut u32,
     );
+
+    /// Places a cursor where a walk with registers is. Returns DONE; or NO_PLACE if `key` is neither
+    /// `address` nor `address` plus 1, and then the cursor is as it was.
+    pub fn dwcheck_cursor_at_place(cursor: *mut Cursor, place: *const RegisterPlace) -> u32;
+
+    /// Makes `place` that of the frame that a cursor is at. Returns DONE; NONE if the cursor's walk has
+    /// ended; or NO_PLACE if a register of a place isn't known. Only DONE writes `place`.
+    pub fn dwcheck_place_of_cursor(place: *mut RegisterPlace, cursor: *const Cursor) -> u32;
 }

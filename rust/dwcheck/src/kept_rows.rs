@@ -1,5 +1,6 @@
 //! Rows that are kept for walks that recur, and walks with them.
 
+use crate::cursor::Cursor;
 use crate::fault::Error;
 use crate::ffi;
 use crate::in_place::EhFrameInPlace;
@@ -209,6 +210,30 @@ impl KeptRows {
             );
         }
         (count, KeptStop::of(stop))
+    }
+}
+
+/// Between walks with kept rows and cursors: a frame that such a walk can't pass takes a step of a
+/// cursor, and the walk goes on where the cursor is.
+impl Cursor {
+    /// A cursor where a walk with registers is. `None` if `key` is neither the frame's address nor its
+    /// address plus 1.
+    pub fn at_place(place: &RegisterPlace) -> Option<Cursor> {
+        let mut cursor = Cursor {
+            raw: ffi::Cursor::EMPTY,
+        };
+        // SAFETY: the cursor is borrowed exclusively, and the place is only read.
+        let status = unsafe { ffi::dwcheck_cursor_at_place(&mut cursor.raw, place) };
+        (status == ffi::DONE).then_some(cursor)
+    }
+
+    /// The place of the frame that the cursor is at. `None` if its walk has ended, or if a register that
+    /// a place has isn't known.
+    pub fn register_place(&self) -> Option<RegisterPlace> {
+        let mut place = RegisterPlace::default();
+        // SAFETY: the place is borrowed exclusively, and the cursor is only read.
+        let status = unsafe { ffi::dwcheck_place_of_cursor(&mut place, &self.raw) };
+        (status == ffi::DONE).then_some(place)
     }
 }
 

@@ -1,8 +1,8 @@
 //! Walks with rows that are kept.
 
 use dwcheck::{
-    Block, EhFrame, EhFrameInPlace, KeptRows, KeptStop, RegisterFrame, RegisterPlace, StackPlace,
-    Target,
+    Block, Cursor, EhFrame, EhFrameInPlace, KeptRows, KeptStop, RegisterFrame, RegisterPlace,
+    StackPlace, Target,
 };
 
 /// A CIE and an FDE of 0x1009 to 0x100b, at 0x2000: the CFA is rsp plus 8, the return address just below.
@@ -132,4 +132,21 @@ fn frames_have_their_registers_and_their_cfas() {
 fn an_address_without_a_row_is_not_kept() {
     let mut rows = Box::new(KeptRows::new());
     assert_eq!(rows.fill(0, &module(), 0x40_100c), Ok(false));
+}
+
+#[test]
+fn a_cursor_at_a_place_is_at_the_same_frame() {
+    let place = RegisterPlace {
+        address: 0x40_100a,
+        key: 0x40_100a,
+        stack_pointer: 0x7008,
+        rbx: 3,
+        r15: 15,
+        ..RegisterPlace::default()
+    };
+    let cursor = Cursor::at_place(&place).unwrap();
+    assert_eq!(cursor.address(), 0x40_100a);
+    assert_eq!(cursor.register_place(), Some(place));
+    let elsewhere = RegisterPlace { key: 7, ..place };
+    assert!(Cursor::at_place(&elsewhere).is_none());
 }
