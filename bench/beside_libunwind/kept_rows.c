@@ -262,6 +262,31 @@ static int in_a_cycle(int i) { return i % 10; }
 static int in_any_order(int i) { (void)i; return rand() % 10; }
 static int the_same(int i) { (void)i; return 0; }
 
+/* What filling in a row takes beside a look-up of it, at addresses at random in the code of libc. */
+static void try_fills(void)
+{
+    enum { ADDRESSES = 20000 };
+    static uint64_t at[ADDRESSES];
+    static dwcheck_rule rules[DWCHECK_MAX_RULES];
+    const Loaded *libc = &loaded[slot_of((uint64_t)dlsym(RTLD_DEFAULT, "strtol"))];
+    double fill_time = 1e30, look_up_time = 1e30;
+    for (int i = 0; i < ADDRESSES; i++) at[i] = libc->first + (uint64_t)rand() % (libc->last - libc->first);
+    for (int round = 0; round < 10; round++) {
+        dwcheck_fault fault;
+        dwcheck_row row;
+        uint32_t is_signal_frame;
+        double begun = now();
+        for (int i = 0; i < ADDRESSES; i++) dwcheck_rows_fill(&rows, 63, &libc->module, &libc->header, at[i], &fault);
+        double filled = now();
+        for (int i = 0; i < ADDRESSES; i++)
+            dwcheck_row_in(&libc->module, &libc->header, at[i], &row, rules, DWCHECK_MAX_RULES, &is_signal_frame, &fault);
+        if (filled - begun < fill_time) fill_time = filled - begun;
+        if (now() - filled < look_up_time) look_up_time = now() - filled;
+    }
+    printf("dwcheck_rows_fill %.0f ns, dwcheck_row_in %.0f ns, %.2f\n", fill_time / ADDRESSES, look_up_time / ADDRESSES,
+           fill_time / look_up_time);
+}
+
 int main(void)
 {
     *(void **)&glibc_backtrace = dlsym(dlopen("libc.so.6", RTLD_NOW), "backtrace");
@@ -278,5 +303,6 @@ int main(void)
     try_stack("the same functions in any order", 600, in_any_order);
     try_stack("one function", 600, the_same);
     try_stack("18 deep", 18, in_a_cycle);
+    try_fills();
     return status;
 }

@@ -2,7 +2,7 @@
 use Rattle.std.proofs.Common.{ℕ, List, [], ◌∷◌, subst}
 use Rattle.std.specs.Prelude.{Option, Some, None}
 use Rattle.dw_rules.specs.Rules.{Row, Cfa, Rule}
-use Rattle.dw_rules.specs.Abi.{rule_under, rules_under}
+use Rattle.dw_rules.specs.Abi.{Abi, rule_under, rules_under}
 use Rattle.dw_eval.specs.World.{World}
 use Rattle.dw_unwind.specs.Caller.{AreRegisters, Caller, IsCaller, IsCfa, IsRegister, machine}
 use Rattle.dw_unwind.specs.Walks.{AreFrames, Place, UnwindsAt, WalkedFrame, next_place, over_rows}
@@ -11,12 +11,12 @@ use Rattle.dw_cached_rows.specs.CachedRows.{HasRulesOf, LeadsTo}
 use Rattle.dw_cached_rows.specs.CachedWalks.{little_64, over_cached, x86_64}
 
 -- a row gives what another one with the same rules gives
-same-caller : (e : World) (one other : Row) (caller : Caller) → HasRulesOf one other → IsCaller e x86_64 16 one caller
-    → IsCaller e x86_64 16 other caller
-same-caller e one other caller same is = record {
+pub same-caller : (e : World) (abi : Abi) (column : ℕ) (one other : Row) (caller : Caller) → HasRulesOf one other
+    → IsCaller e abi column one caller → IsCaller e abi column other caller
+same-caller e abi column one other caller same is = record {
   cfa = subst (λ (rule : Option Cfa). IsCfa e rule caller.cfa) same.cfa is.cfa;
-  registers = subst (λ (rules : List (ℕ × Rule)). AreRegisters e caller.cfa (rules_under x86_64 rules) caller.registers) same.rules is.registers;
-  return_address = subst (λ (rules : List (ℕ × Rule)). IsRegister e caller.cfa 16 (rule_under x86_64 rules 16) caller.return_address)
+  registers = subst (λ (rules : List (ℕ × Rule)). AreRegisters e caller.cfa (rules_under abi rules) caller.registers) same.rules is.registers;
+  return_address = subst (λ (rules : List (ℕ × Rule)). IsRegister e caller.cfa column (rule_under abi rules column) caller.return_address)
       same.rules is.return_address;
 }
 
@@ -31,7 +31,7 @@ one-unwinding rows confirmed memory Finds leads registers (Some a) (Some caller)
     let row = leads a found confirms in (
       Some (row.0, 16),
       row.1,
-      same-caller (machine little_64 registers memory) found.0 row.0 caller row.2
+      same-caller (machine little_64 registers memory) x86_64 16 found.0 row.0 caller row.2
           (subst (λ (column : ℕ). IsCaller (machine little_64 registers memory) x86_64 column found.0 caller) confirms.column is),
     )
 

@@ -103,48 +103,39 @@ last-frame callers memory packed full here p cfa form cfa-is at is =
 
 -- ---- the register of the CFA
 
-same-register : (n r : ℕ) → (r == n) ≡ true → r ≡ n
+same-register : (n r : ℕ) → (n == r) ≡ true → r ≡ n
 same-register n r is = grind (arith, nat_tests, is)
 
 pub kept-register : (here : RegisterPlace) (p : Place) (r n : ℕ) → IsWith here p → register_in here r ≡ Some n → p.registers r ≡ Some n
-kept-register here p r n at is = go7 (r == 7) (same-register 7 r) is
+kept-register here p r n at is = go15 (15 == r) (same-register 15 r) is
   where
     moved : (m : ℕ) (x : ℕ) → r ≡ m → p.registers m ≡ Some x → Some x ≡ Some n → p.registers r ≡ Some n
     moved m x same content found = ap p.registers same ∙ content ∙ found
 
-    go15 : (b : Bool) → (b ≡ true → r ≡ 15) → (if b then Some here.r15 else None) ≡ Some n → p.registers r ≡ Some n
-    go15 true same found = moved 15 here.r15 (same refl) at.r15 found
-    go15 false same found = absurd (cc)
-
-    go14 : (b : Bool) → (b ≡ true → r ≡ 14) → (if b then Some here.r14 else (if r == 15 then Some here.r15 else None)) ≡ Some n
-        → p.registers r ≡ Some n
-    go14 true same found = moved 14 here.r14 (same refl) at.r14 found
-    go14 false same found = go15 (r == 15) (same-register 15 r) found
-
-    go13 : (b : Bool) → (b ≡ true → r ≡ 13)
-        → (if b then Some here.r13 else (if r == 14 then Some here.r14 else (if r == 15 then Some here.r15 else None))) ≡ Some n
-        → p.registers r ≡ Some n
-    go13 true same found = moved 13 here.r13 (same refl) at.r13 found
-    go13 false same found = go14 (r == 14) (same-register 14 r) found
-
-    go12 : (b : Bool) → (b ≡ true → r ≡ 12) → (if b then Some here.r12 else (if r == 13 then Some here.r13
-        else (if r == 14 then Some here.r14 else (if r == 15 then Some here.r15 else None)))) ≡ Some n → p.registers r ≡ Some n
-    go12 true same found = moved 12 here.r12 (same refl) at.r12 found
-    go12 false same found = go13 (r == 13) (same-register 13 r) found
-
-    go3 : (b : Bool) → (b ≡ true → r ≡ 3) → (if b then Some here.rbx else (if r == 12 then Some here.r12 else (if r == 13 then Some here.r13
-        else (if r == 14 then Some here.r14 else (if r == 15 then Some here.r15 else None))))) ≡ Some n → p.registers r ≡ Some n
-    go3 true same found = moved 3 here.rbx (same refl) at.rbx found
-    go3 false same found = go12 (r == 12) (same-register 12 r) found
-
-    go6 : (b : Bool) → (b ≡ true → r ≡ 6) → (if b then Some here.rbp else (if r == 3 then Some here.rbx else (if r == 12 then Some here.r12
-        else (if r == 13 then Some here.r13 else (if r == 14 then Some here.r14 else (if r == 15 then Some here.r15 else None)))))) ≡ Some n
-        → p.registers r ≡ Some n
-    go6 true same found = moved 6 here.rbp (same refl) at.rbp found
-    go6 false same found = go3 (r == 3) (same-register 3 r) found
-
-    go7 : (b : Bool) → (b ≡ true → r ≡ 7) → (if b then Some here.stack_pointer else (if r == 6 then Some here.rbp
-        else (if r == 3 then Some here.rbx else (if r == 12 then Some here.r12 else (if r == 13 then Some here.r13
-        else (if r == 14 then Some here.r14 else (if r == 15 then Some here.r15 else None))))))) ≡ Some n → p.registers r ≡ Some n
+    go7 : (b : Bool) → (b ≡ true → r ≡ 7) → (if b then Some here.stack_pointer else None) ≡ Some n → p.registers r ≡ Some n
     go7 true same found = moved 7 here.stack_pointer (same refl) at.pointer found
-    go7 false same found = go6 (r == 6) (same-register 6 r) found
+    go7 false same found = absurd (cc)
+
+    go3 : (b : Bool) → (b ≡ true → r ≡ 3) → (if b then Some here.rbx else (if 7 == r then Some here.stack_pointer else None)) ≡ Some n → p.registers r ≡ Some n
+    go3 true same found = moved 3 here.rbx (same refl) at.rbx found
+    go3 false same found = go7 (7 == r) (same-register 7 r) found
+
+    go6 : (b : Bool) → (b ≡ true → r ≡ 6) → (if b then Some here.rbp else (if 3 == r then Some here.rbx else (if 7 == r then Some here.stack_pointer else None))) ≡ Some n → p.registers r ≡ Some n
+    go6 true same found = moved 6 here.rbp (same refl) at.rbp found
+    go6 false same found = go3 (3 == r) (same-register 3 r) found
+
+    go12 : (b : Bool) → (b ≡ true → r ≡ 12) → (if b then Some here.r12 else (if 6 == r then Some here.rbp else (if 3 == r then Some here.rbx else (if 7 == r then Some here.stack_pointer else None)))) ≡ Some n → p.registers r ≡ Some n
+    go12 true same found = moved 12 here.r12 (same refl) at.r12 found
+    go12 false same found = go6 (6 == r) (same-register 6 r) found
+
+    go13 : (b : Bool) → (b ≡ true → r ≡ 13) → (if b then Some here.r13 else (if 12 == r then Some here.r12 else (if 6 == r then Some here.rbp else (if 3 == r then Some here.rbx else (if 7 == r then Some here.stack_pointer else None))))) ≡ Some n → p.registers r ≡ Some n
+    go13 true same found = moved 13 here.r13 (same refl) at.r13 found
+    go13 false same found = go12 (12 == r) (same-register 12 r) found
+
+    go14 : (b : Bool) → (b ≡ true → r ≡ 14) → (if b then Some here.r14 else (if 13 == r then Some here.r13 else (if 12 == r then Some here.r12 else (if 6 == r then Some here.rbp else (if 3 == r then Some here.rbx else (if 7 == r then Some here.stack_pointer else None)))))) ≡ Some n → p.registers r ≡ Some n
+    go14 true same found = moved 14 here.r14 (same refl) at.r14 found
+    go14 false same found = go13 (13 == r) (same-register 13 r) found
+
+    go15 : (b : Bool) → (b ≡ true → r ≡ 15) → (if b then Some here.r15 else (if 14 == r then Some here.r14 else (if 13 == r then Some here.r13 else (if 12 == r then Some here.r12 else (if 6 == r then Some here.rbp else (if 3 == r then Some here.rbx else (if 7 == r then Some here.stack_pointer else None))))))) ≡ Some n → p.registers r ≡ Some n
+    go15 true same found = moved 15 here.r15 (same refl) at.r15 found
+    go15 false same found = go14 (14 == r) (same-register 14 r) found

@@ -82,9 +82,9 @@ pub record Confirms (rows : List PackedRow) (mask address : ℕ) (found : Row ×
   pub held : Holds rows slot address found.0
   pub column : found.1 ≡ RETURN_ADDRESS
 
--- no module whose slot has its bit in the mask has a row where the address is searched for
+-- no entry in which the address is searched for has it, for a module whose slot has its bit in the mask
 abbrev pub IsMissing : List PackedRow → ℕ → ℕ → Type 0
-IsMissing rows mask address = (slot : ℕ) (row : Row) → is_confirmed mask slot ≡ true → HoldsInSet rows slot address row → ⊥
+IsMissing rows mask address = (i : ℕ) → i / WAYS ≡ set_of_key (suc address) → is_usable mask (suc address) (entry_at rows i) ≡ false
 
 -- ---- how rows come into a cache
 

@@ -77,7 +77,8 @@ IsStep memory row p steps.ReturnUnreadable = EndsHere memory row p ReturnUnreada
 IsStep memory row p steps.Other = Unit {0}
 
 -- Two registers aren't enough for a step by the entry: the CFA's register is neither of them, or it
--- is rbp, whose content isn't known.
+-- is rbp, whose content isn't known; or the return address is undefined, and the CFA's register isn't
+-- rsp; or the entry stands for no row.
 abbrev pub NeedsMore : (ℕ → Option ℕ) → PackedRow → StackPlace → Type 0
 NeedsMore memory p here = (p.form ≢ RSP) × (p.form ≢ LAST + RSP) × (p.form ≡ RBP → frame_pointer_in memory here ≡ None)
 
@@ -124,6 +125,7 @@ stop_of_end _ = None
 
 -- A walk that is here may use an entry that its two registers aren't enough for.
 pub record IsOther (rows : List PackedRow) (mask : ℕ) (memory : ℕ → Option ℕ) (here : StackPlace) : Type 0 where
+  pub looked_up : here.key ≢ 0
   pub index : ℕ
   pub usable : is_usable mask here.key (entry_at rows index) ≡ true
   pub needs : NeedsMore memory (entry_at rows index) here

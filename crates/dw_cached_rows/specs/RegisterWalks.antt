@@ -20,9 +20,9 @@ use Rattle.dw_cached_rows.specs.CachedWalks.{IsCallerFrom, word_at}
 
 -- the content of a register that the walk keeps; None for any other register
 abbrev pub register_in : RegisterPlace → ℕ → Option ℕ
-register_in here r = if r == RSP then Some here.stack_pointer else if r == RBP then Some here.rbp else if r == RBX then Some here.rbx
-    else if r == R12 then Some here.r12 else if r == R13 then Some here.r13 else if r == R14 then Some here.r14
-    else if r == R15 then Some here.r15 else None
+register_in here r = if R15 == r then Some here.r15 else if R14 == r then Some here.r14 else if R13 == r then Some here.r13
+    else if R12 == r then Some here.r12 else if RBP == r then Some here.rbp else if RBX == r then Some here.rbx
+    else if RSP == r then Some here.stack_pointer else None
 
 -- A walk that keeps the stack pointer and the callee-saved registers is at the place `p`. The other
 -- registers have any contents.
@@ -103,19 +103,26 @@ EndsWithRegisters u from frames stop = (p : Place) → IsWith from p → EndsWit
 
 -- ---- where a walk stops
 
--- The entry's row takes more than the registers that the walk keeps: the CFA's register is another
--- one, or a callee-saved register is saved where memory isn't known.
+-- The walk has no content for the register of the CFA; or the return address is undefined, and the
+-- CFA's register isn't rsp; or the entry stands for no row.
 abbrev pub NeedsOthers : PackedRow → RegisterPlace → Type 0
 NeedsOthers p here = (register_in here p.form ≡ None) × (p.form ≢ LAST + RSP)
 
+-- a callee-saved register is saved where memory isn't known, from this CFA on
 abbrev pub LacksSaved : (ℕ → Option ℕ) → ℕ → PackedRow → RegisterPlace → Type 0
 LacksSaved memory cfa p here = (content_after memory cfa p.rbx here.rbx ≡ None) ⊎ (content_after memory cfa p.rbp here.rbp ≡ None)
     ⊎ (content_after memory cfa p.r12 here.r12 ≡ None) ⊎ (content_after memory cfa p.r13 here.r13 ≡ None)
     ⊎ (content_after memory cfa p.r14 here.r14 ≡ None) ⊎ (content_after memory cfa p.r15 here.r15 ≡ None)
 
+-- so it is from the CFA that the entry's row gives
+pub record LacksWord (memory : ℕ → Option ℕ) (p : PackedRow) (here : RegisterPlace) : Type 0 where
+  pub base : ℕ
+  pub base_is : register_in here p.form ≡ Some base
+  pub lacks : LacksSaved memory (wrap 64 (pos base +ℤ p.cfa_offset)) p here
+
 -- A walk that is here may use an entry whose row takes more.
 pub record IsOtherWith (rows : List PackedRow) (mask : ℕ) (memory : ℕ → Option ℕ) (here : RegisterPlace) : Type 0 where
+  pub looked_up : here.key ≢ 0
   pub index : ℕ
   pub usable : is_usable mask here.key (entry_at rows index) ≡ true
-  pub needs : NeedsOthers (entry_at rows index) here
-      ⊎ ((cfa : ℕ) × LacksSaved memory cfa (entry_at rows index) here)
+  pub needs : NeedsOthers (entry_at rows index) here ⊎ LacksWord memory (entry_at rows index) here

@@ -22,11 +22,11 @@ pub(crate) const MULTIPLIER: u64 = 0x9e37_79b9_7f4a_7c15;
 /// By how many bits a product is shifted to the right to give the number of a set.
 const SHIFT: u32 = 56;
 
-/// Rows that were looked up before, for walks that recur, in some 26 KB. It is plain data: any bytes
+/// Rows that were looked up before, for walks that recur, in 26,888 bytes. It is plain data: any bytes
 /// are a cache, and a new one is all zeros.
 ///
 /// A row is of a module. The caller of a cache gives each module a slot, a number below `SLOTS`, and
-/// says for each walk, by a mask of 64 bits, which slots he has confirmed: that the module is still
+/// says for each walk, by a mask of 64 bits, which slots are confirmed: that the module is still
 /// the one whose rows the cache has. A row of any other slot isn't used. So a slot names one module
 /// until `forget`.
 #[repr(C)]
@@ -39,6 +39,8 @@ pub struct CachedRows {
     /// How many rows of each set were replaced, modulo 256.
     pub(crate) turns: [u8; SETS],
 }
+
+const _: () = prove!(size_of::<CachedRows>() == 26888);
 
 /// Whether a row is that of a key, for a module that is confirmed.
 #[inline(always)]

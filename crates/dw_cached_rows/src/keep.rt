@@ -1,8 +1,8 @@
 //! Rows that are packed into a cache.
 
-ghost use Rattle.std.specs.Prelude.{◌≡◌, ◌<◌, ◌≤◌, ◌+◌, ◌/◌, ◌⊎◌, ℕ, IfSome, true, false};
+ghost use Rattle.std.specs.Prelude.{◌≡◌, ◌≢◌, ◌<◌, ◌≤◌, ◌+◌, ◌/◌, ◌⊎◌, ℕ, IfSome, true, false};
 ghost use Rattle.dw_rules.specs.Rules.{Row};
-ghost use Rattle.dw_cached_rows.specs.CachedRows.{Holds, HoldsInSet, IsKept, set_of_key};
+ghost use Rattle.dw_cached_rows.specs.CachedRows.{Holds, HoldsInSet, IsKept, entry_at, set_of_key};
 ghost use Rattle.dw_cached_rows.specs.PackedRows.{IsRowOf};
 
 use crate::cached_rows::{CachedRows, ROWS, SETS, WAYS, first_of_set};
@@ -70,8 +70,12 @@ impl CachedRows {
     ) -> bool
         requires { slot < SLOTS }
         ensures held { result ≡ true → HoldsInSet self.new.rows slot address row.now }
-        ensures usable { result ≡ true → (return_register ≡ RETURN_ADDRESS)
-            × (is_signal_frame ≡ false) }
+        ensures column { result ≡ true → return_register ≡ RETURN_ADDRESS }
+        ensures called { result ≡ true → is_signal_frame ≡ false }
+        ensures dropped { result ≡ false → (other at : ℕ) (held : Row)
+            → Holds self.new.rows other at held → Holds self.old.rows other at held }
+        ensures one { (index : ℕ) × ((other : ℕ) → other ≢ index
+            → entry_at self.new.rows other ≡ entry_at self.old.rows other) }
         ensures only { (other at : ℕ) (held : Row) → Holds self.new.rows other at held
             → Holds self.old.rows other at held ⊎ IsKept slot address row.now return_register
             is_signal_frame other at held }

@@ -1,12 +1,14 @@
 //! Laws of walks with cached rows: functions that do nothing, each with the law as its contract.
 
-ghost use Rattle.std.specs.Prelude.{◌⊎◌, ℕ, Bool, List, Option, Some};
+ghost use Rattle.std.specs.Prelude.{◌≡◌, ◌⊎◌, ℕ, Bool, List, Option, Some};
+ghost use Rattle.dw_eval.specs.World.{World};
+ghost use Rattle.dw_rules.specs.Abi.{Abi};
 ghost use Rattle.dw_rules.specs.Rules.{Row};
+ghost use Rattle.dw_unwind.specs.Caller.{Caller, IsCaller};
 ghost use Rattle.dw_unwind.specs.Walks.{AreFrames, Place, WalkedFrame, over_rows};
-ghost use Rattle.dw_cached_rows.specs.CachedRows.{AreRowsOf, Holds, IsKept, LeadsTo};
+ghost use Rattle.dw_cached_rows.specs.CachedRows.{AreRowsOf, HasRulesOf, Holds, IsKept, LeadsTo};
 ghost use Rattle.dw_cached_rows.specs.CachedWalks.{little_64, over_cached, x86_64};
 ghost use Rattle.dw_cached_rows.specs.declared.packed_row.PackedRow.{PackedRow};
-ghost use Rattle.dw_cached_rows.specs.declared.packed_row.TheConstants.{RETURN_ADDRESS};
 
 use dw_unwind::UnwindRows;
 
@@ -14,7 +16,8 @@ use dw_unwind::UnwindRows;
 /// at its address, then the frames of a walk with the cache are those of a walk with the look-up.
 pub fn walks_are_those_over_look_ups<T: UnwindRows>()
     ensures { (source : T) (rows : List PackedRow) (confirmed : ℕ) (memory : ℕ → Option ℕ)
-        (from : Option Place) (frames : List WalkedFrame) → LeadsTo (T.finds source) rows confirmed
+        (from : Option Place) (frames : List WalkedFrame)
+        → T.target_of source ≡ little_64 → LeadsTo (T.finds source) rows confirmed
         → AreFrames (over_cached rows confirmed memory) from frames
         → AreFrames (over_rows little_64 (T.finds source) x86_64 memory) from frames }
 {}
@@ -24,9 +27,16 @@ pub fn walks_are_those_over_look_ups<T: UnwindRows>()
 pub fn rows_stay_those_of_their_modules<T: UnwindRows>()
     ensures { (module_of : ℕ → T) (old new : List PackedRow) (slot address column : ℕ) (row : Row)
         (is_signal : Bool)
-        → T.finds (module_of slot) address (Some (row, RETURN_ADDRESS))
+        → T.finds (module_of slot) address (Some (row, column))
         → AreRowsOf (λ slot. T.finds (module_of slot)) old
         → ((other at : ℕ) (held : Row) → Holds new other at held
         → Holds old other at held ⊎ IsKept slot address row column is_signal other at held)
         → AreRowsOf (λ slot. T.finds (module_of slot)) new }
+{}
+
+/// Rows with the same rules give the same callers, whatever addresses they cover.
+pub fn rows_with_the_same_rules_give_the_same_callers()
+    ensures { (e : World) (abi : Abi) (column : ℕ) (one other : Row) (caller : Caller)
+        → HasRulesOf one other → IsCaller e abi column one caller
+        → IsCaller e abi column other caller }
 {}

@@ -5,7 +5,7 @@ ghost use Rattle.dw_eval.specs.Numbers.{wrap};
 ghost use Rattle.dw_rules.specs.Rules.{Row};
 ghost use Rattle.dw_unwind.specs.Walks.{Place};
 ghost use Rattle.dw_cached_rows.specs.PackedRows.{IsRowOf};
-ghost use Rattle.dw_cached_rows.specs.RegisterWalks.{IsAfter, IsRegisterStep, IsWith, LacksSaved, NeedsOthers, content_after, register_in};
+ghost use Rattle.dw_cached_rows.specs.RegisterWalks.{IsAfter, IsRegisterStep, IsWith, LacksSaved, LacksWord, NeedsOthers, content_after, register_in};
 ghost use Rattle.dw_cached_rows.specs.declared.register_place.RegisterStep.TheVariants as steps;
 
 use crate::packed_row::{LAST, PackedRow, R12, R13, R14, R15, RBP, RBX, RSP};
@@ -41,6 +41,8 @@ pub struct FrameWithRegisters {
     pub place: RegisterPlace,
     pub cfa: u64,
 }
+
+const _: () = prove!(size_of::<FrameWithRegisters>() == 80);
 
 /// What a row says of a frame.
 #[derive(Clone, Copy, Debug, PartialEq, Eq)]
@@ -144,7 +146,8 @@ fn step_with_cfa<M: Memory>(
     memory: &M,
 ) -> RegisterStep
     requires { row.now.form < LAST }
-    ensures other { result ≡ steps.Other → (cfa : ℕ) × LacksSaved (M.bytes memory.now) cfa row.now here.now }
+    ensures other { result ≡ steps.Other → LacksSaved (M.bytes memory.now)
+        (wrap 64 (pos base +ℤ row.now.cfa_offset)) row.now here.now }
     ensures step { (p : Place) (full : Row) → IsWith here.now p
         → IsRowOf row.now full → p.registers row.now.form ≡ Some base
         → IsRegisterStep (M.bytes memory.now) full p result }
@@ -177,7 +180,7 @@ fn last_step<M: Memory>(row: &PackedRow, here: &RegisterPlace, _memory: &M) -> R
 pub(crate) fn step_by<M: Memory>(row: &PackedRow, here: &RegisterPlace, memory: &M) -> RegisterStep
     ensures none { row.now.form ≡ 0 → result ≡ steps.Other }
     ensures other { result ≡ steps.Other → NeedsOthers row.now here.now
-        ⊎ ((cfa : ℕ) × LacksSaved (M.bytes memory.now) cfa row.now here.now) }
+        ⊎ LacksWord (M.bytes memory.now) row.now here.now }
     ensures step { (p : Place) (full : Row) → IsWith here.now p
         → IsRowOf row.now full → IsRegisterStep (M.bytes memory.now) full p result }
 {

@@ -1,12 +1,18 @@
 -- Rows that C keeps: what a row that was kept is.
-use Rattle.std.proofs.Common.{◌≡◌, ◌⊎◌, ℕ, false, inl, inr, refl, List}
+use Rattle.std.proofs.Common.{◌≡◌, ◌≢◌, ◌⊎◌, ℕ, false, inl, inr, refl, List, [], ◌∷◌, subst, sym}
+use Rattle.std.specs.Prelude.{None, Option, Some}
+use Rattle.dw_eval.specs.World.{World}
+use Rattle.dw_rules.specs.Abi.{Abi}
+use Rattle.dw_unwind.specs.Caller.{Caller, IsCaller, machine}
+use Rattle.dw_unwind.specs.Walks.{AreFrames, Place, UnwindsAt, WalkedFrame, next_place, over_rows}
 use Rattle.dw_bytes.specs.declared.target.Target.{Target}
 use Rattle.dw_rules.specs.Rules.{Row}
 use Rattle.dw_eh_frame.specs.Records.{EhFde}
 use Rattle.dw_cached_rows.specs.declared.packed_row.PackedRow.{PackedRow}
-use Rattle.dw_cached_rows.specs.CachedRows.{Holds, IsKept}
-use Rattle.dw_cached_rows.specs.CachedWalks.{little_64}
-use Rattle.dwcheck_c.specs.CachedFills.{IsOfFill, IsUsable}
+use Rattle.dw_cached_rows.specs.declared.packed_row.TheConstants.{RETURN_ADDRESS}
+use Rattle.dw_cached_rows.specs.CachedRows.{AreRowsOf, HasRulesOf, Holds, IsKept, entry_at}
+use Rattle.dw_cached_rows.specs.CachedWalks.{little_64, over_cached, x86_64}
+use Rattle.dwcheck_c.specs.CachedFills.{CanBeKept, FindsConfirmed, FindsIn, HasUsableRow, IsOfFill}
 use Rattle.dwcheck_c.specs.InPlaceLookUps.{HasRow}
 use Rattle.dwcheck_c.specs.declared.in_place.CHeader.{CHeader}
 use Rattle.dwcheck_c.specs.declared.module.CModule.{CModule}
@@ -14,7 +20,7 @@ use Rattle.dwcheck_c.specs.declared.module.CModule.{CModule}
 pub usable-kept : (old : List PackedRow) (target : Target) (e : EhFde) (slot address : ℕ) (row : Row) (other at : ℕ) (held : Row)
     → target ≡ little_64
     → Holds old other at held ⊎ IsKept slot address row e.cie.cie.return_address_register e.cie.augmentation.is_signal other at held
-    → Holds old other at held ⊎ (IsUsable target e × IsKept slot address row 16 false other at held)
+    → Holds old other at held ⊎ (CanBeKept target e × IsKept slot address row 16 false other at held)
 usable-kept old target e slot address row other at held is (inl before) = inl before
 usable-kept old target e slot address row other at held is (inr kept) = inr (
   record { target_is = is; column = kept.column_is; called = kept.called },
@@ -23,7 +29,7 @@ usable-kept old target e slot address row other at held is (inr kept) = inr (
 
 pub of-fill : (old : List PackedRow) (m : CModule) (h : CHeader) (target : Target) (e : EhFde) (slot address : ℕ) (row : Row) (other at : ℕ)
     (held : Row) → HasRow m h address target e row
-    → Holds old other at held ⊎ (IsUsable target e × IsKept slot address row 16 false other at held)
+    → Holds old other at held ⊎ (CanBeKept target e × IsKept slot address row 16 false other at held)
     → Holds old other at held ⊎ IsOfFill m h slot address other at held
 of-fill old m h target e slot address row other at held has (inl before) = inl before
 of-fill old m h target e slot address row other at held has (inr (usable, kept)) = inr (record {
@@ -33,3 +39,68 @@ of-fill old m h target e slot address row other at held has (inr (usable, kept))
   has = record { target = target; fde = e; usable = usable; has = has };
   rules = kept.rules;
 })
+
+-- ---- rows are those of their modules
+
+pub none-in-zeros : (loaded : ℕ → CModule × CHeader) (rows : List PackedRow) → ((i : ℕ) → (entry_at rows i).key ≡ 0)
+    → AreRowsOf (FindsIn loaded) rows
+none-in-zeros loaded rows zeros slot address held is = absurd (cc (zeros is.0, is.1.key))
+
+pub after-fill : (loaded : ℕ → CModule × CHeader) (old new : List PackedRow) (slot address : ℕ) → AreRowsOf (FindsIn loaded) old
+    → ((other at : ℕ) (held : Row) → Holds new other at held → Holds old other at held
+    ⊎ IsOfFill (loaded slot).0 (loaded slot).1 slot address other at held)
+    → AreRowsOf (FindsIn loaded) new
+after-fill loaded old new slot address are only other at held is = elim (only other at held is) [
+  | inl before ↦ are other at held before
+  | inr kept ↦ (
+    kept.row,
+    subst (λ (s : ℕ). FindsIn loaded s at (Some (kept.row, 16))) (sym kept.slot_is)
+        (subst (λ (a : ℕ). FindsIn loaded slot a (Some (kept.row, 16))) (sym kept.address_is) (kept.has, refl)),
+    kept.rules,
+  )
+]
+
+pub after-forget : (loaded next : ℕ → CModule × CHeader) (old new : List PackedRow) (slot : ℕ) → AreRowsOf (FindsIn loaded) old
+    → ((address : ℕ) (row : Row) → Holds new slot address row → ⊥)
+    → ((other address : ℕ) (row : Row) → other ≢ slot → Holds new other address row → Holds old other address row)
+    → ((other : ℕ) → other ≢ slot → next other ≡ loaded other) → AreRowsOf (FindsIn next) new
+after-forget loaded next old new slot are none others same other at held is =
+    let differs : other ≢ slot = λ same-slot. none at held (subst (λ (s : ℕ). Holds new s at held) same-slot is) in
+    let before = are other at held (others other at held differs is) in (
+      before.0,
+      subst (λ (m : CModule × CHeader). HasUsableRow m.0 m.1 at before.0 × (◌≡◌ {A = ℕ} 16 RETURN_ADDRESS)) (sym (same other differs)) before.1,
+      before.2,
+    )
+
+-- ---- walks
+
+abbrev pub SameCallers : Type 0
+SameCallers = (e : World) (abi : Abi) (column : ℕ) (one other : Row) (caller : Caller) → HasRulesOf one other
+    → IsCaller e abi column one caller → IsCaller e abi column other caller
+
+one-unwinding : SameCallers → (loaded : ℕ → CModule × CHeader) (rows : List PackedRow) (mask : ℕ) (memory : ℕ → Option ℕ)
+    → AreRowsOf (FindsIn loaded) rows → (registers : ℕ → Option ℕ) (at : Option ℕ) (caller : Option Caller)
+    → UnwindsAt (over_cached rows mask memory) registers at caller
+    → UnwindsAt (over_rows little_64 (FindsConfirmed loaded mask) x86_64 memory) registers at caller
+one-unwinding callers loaded rows mask memory are registers None caller is = is
+one-unwinding callers loaded rows mask memory are registers (Some a) caller (None, confirms, is) = absurd confirms
+one-unwinding callers loaded rows mask memory are registers (Some a) None (Some found, confirms, is) = absurd is
+one-unwinding callers loaded rows mask memory are registers (Some a) (Some caller) (Some found, confirms, is) =
+    let e = machine little_64 registers memory in
+    let row = are confirms.slot a found.0 confirms.held in (
+      Some (row.0, 16),
+      (confirms.slot, confirms.confirmed, row.1),
+      callers e x86_64 16 found.0 row.0 caller row.2
+          (subst (λ (column : ℕ). IsCaller e x86_64 column found.0 caller) confirms.column is),
+    )
+
+pub walks-over-look-ups : SameCallers → (loaded : ℕ → CModule × CHeader) (rows : List PackedRow) (mask : ℕ) (memory : ℕ → Option ℕ)
+    (from : Option Place) (frames : List WalkedFrame) → AreRowsOf (FindsIn loaded) rows
+    → AreFrames (over_cached rows mask memory) from frames
+    → AreFrames (over_rows little_64 (FindsConfirmed loaded mask) x86_64 memory) from frames
+walks-over-look-ups callers loaded rows mask memory from [] are is = tt
+walks-over-look-ups callers loaded rows mask memory None (f ∷ frames) are is = absurd is
+walks-over-look-ups callers loaded rows mask memory (Some p) (f ∷ frames) are is = (
+  (is.0.0, one-unwinding callers loaded rows mask memory are p.registers p.looked_up f.caller is.0.1),
+  walks-over-look-ups callers loaded rows mask memory (next_place f.caller) frames are is.1,
+)

@@ -1,5 +1,5 @@
 -- Rows that C keeps for walks that recur, and why such a walk ends.
-use Rattle.std.specs.Prelude.{◌≡◌, ℕ, false, List, Option, Some}
+use Rattle.std.specs.Prelude.{◌≡◌, ◌⊎◌, ℕ, false, true, List, None, Option, Some}
 use Rattle.dw_bytes.specs.declared.target.Target.{Target}
 use Rattle.dw_rules.specs.Rules.{Row}
 use Rattle.dw_eh_frame.specs.Records.{EhFde}
@@ -10,7 +10,7 @@ use Rattle.dw_cached_rows.specs.declared.packed_row.TheConstants.{R12, R13, R14,
 use Rattle.dw_cached_rows.specs.declared.register_place.RegisterPlace.{RegisterPlace}
 use Rattle.dw_cached_rows.specs.declared.walk.WalkEnd.{WalkEnd}
 use Rattle.dw_cached_rows.specs.declared.walk.WalkEnd.TheVariants as ends
-use Rattle.dw_cached_rows.specs.CachedRows.{HasRulesOf, HoldsInSet}
+use Rattle.dw_cached_rows.specs.CachedRows.{HasRulesOf, HoldsInSet, is_confirmed}
 use Rattle.dw_cached_rows.specs.CachedWalks.{little_64}
 use Rattle.dwcheck_c.specs.InPlaceLookUps.{HasRow}
 use Rattle.dwcheck_c.specs.declared.cached_walks.TheConstants.{MISSING, OTHER}
@@ -25,11 +25,15 @@ end_number ends.Other = OTHER
 end_number ends.ReturnUndefined = stop_number stops.ReturnUndefined
 end_number ends.ReturnUnreadable = stop_number stops.ReturnUnreadable
 
+-- C's number says that the walk may go on from its place
+abbrev pub GoesOn : ℕ → Type 0
+GoesOn stop = (stop ≡ stop_number stops.Limit) ⊎ (stop ≡ MISSING) ⊎ (stop ≡ OTHER)
+
 -- ---- the row that is kept
 
 -- The rows of an FDE can be kept: numbers have 8 bytes, the least significant one first; the frames
 -- aren't those of signals; and the return address has the column that x86-64 gives it.
-pub record IsUsable (target : Target) (fde : EhFde) : Type 0 where
+pub record CanBeKept (target : Target) (fde : EhFde) : Type 0 where
   pub target_is : target ≡ little_64
   pub column : fde.cie.cie.return_address_register ≡ RETURN_ADDRESS
   pub called : fde.cie.augmentation.is_signal ≡ false
@@ -38,7 +42,7 @@ pub record IsUsable (target : Target) (fde : EhFde) : Type 0 where
 pub record HasUsableRow (m : CModule) (h : CHeader) (address : ℕ) (row : Row) : Type 0 where
   pub target : Target
   pub fde : EhFde
-  pub usable : IsUsable target fde
+  pub usable : CanBeKept target fde
   pub has : HasRow m h address target fde row
 
 -- The cache has the row of the address now, where walks search for it.
@@ -54,6 +58,18 @@ pub record IsOfFill (m : CModule) (h : CHeader) (slot address other at : ℕ) (h
   pub row : Row
   pub has : HasUsableRow m h address row
   pub rules : HasRulesOf held row
+
+-- ---- what is kept in the end
+
+-- what a look-up in place of an address finds in the module with a slot: a row that can be kept
+abbrev pub FindsIn : (ℕ → CModule × CHeader) → ℕ → ℕ → Option (Row × ℕ) → Type 0
+FindsIn loaded slot address None = ⊥
+FindsIn loaded slot address (Some found) =
+    HasUsableRow (loaded slot).0 (loaded slot).1 address found.0 × (found.1 ≡ RETURN_ADDRESS)
+
+-- the same in a module whose slot has its bit in the mask
+abbrev pub FindsConfirmed : (ℕ → CModule × CHeader) → ℕ → ℕ → Option (Row × ℕ) → Type 0
+FindsConfirmed loaded mask address found = (slot : ℕ) × (is_confirmed mask slot ≡ true) × FindsIn loaded slot address found
 
 -- ---- cursors
 

@@ -1,21 +1,26 @@
 //! The C calls that keep rows for walks that recur, and walk with them.
 
-ghost use Rattle.std.specs.Prelude.{◌≡◌, ◌≢◌, ◌↔◌, ◌%◌, ◌<◌, ◌≤◌, ◌⊎◌, ℕ, IfSome, None, Ok, Err, drop, length, take, false};
+ghost use Rattle.std.specs.Prelude.{◌+◌, ◌≡◌, ◌≢◌, ◌↔◌, ◌%◌, ◌<◌, ◌≤◌, ◌⊎◌, ℕ, IfSome, List, None, Ok, Option, Err, drop, length, take, false};
 ghost use Rattle.dw_bytes.specs.declared.fault.Fault.{Fault as Why};
 ghost use Rattle.dw_c_types.specs.Faults.{cfault_of};
 ghost use Rattle.dw_c_types.specs.Frames.{stop_number};
 ghost use Rattle.dw_c_types.specs.Machine.{byte_in};
+ghost use Rattle.dw_bytes.specs.declared.target.Target.{Target as OfTarget};
+ghost use Rattle.dw_eh_frame.specs.Records.{EhFde};
 ghost use Rattle.dw_rules.specs.Rules.{Row};
-ghost use Rattle.dw_unwind.specs.Walks.{address_before};
+ghost use Rattle.dw_unwind.specs.Walks.{AreFrames, Place, WalkedFrame, address_before, over_rows};
+ghost use Rattle.dwcheck_c.specs.declared.in_place.CHeader.{CHeader as Header};
+ghost use Rattle.dwcheck_c.specs.declared.module.CModule.{CModule as Module};
 ghost use Rattle.dw_eh_frame.specs.Views.{eh_fde_of};
 ghost use Rattle.dw_unwind.specs.declared.frames.Stop.{Stop as Reason};
-ghost use Rattle.dw_cached_rows.specs.CachedRows.{Holds, HoldsInSet, IsKept, IsMissing};
-ghost use Rattle.dw_cached_rows.specs.CachedWalks.{EndsAfter, IsOther, Passes, over_cached};
-ghost use Rattle.dw_cached_rows.specs.RegisterWalks.{EndsWithRegisters, IsOtherWith, IsWith, WalksWith};
+ghost use Rattle.dw_cached_rows.specs.CachedRows.{AreRowsOf, Holds, HoldsInSet, IsKept, IsMissing, entry_at};
+ghost use Rattle.dw_cached_rows.specs.declared.packed_row.PackedRow.{PackedRow};
+ghost use Rattle.dw_cached_rows.specs.CachedWalks.{EndsAfter, IsOther, Passes, little_64, over_cached, x86_64};
+ghost use Rattle.dw_cached_rows.specs.RegisterWalks.{EndsWithRegisters, IsOtherWith, IsWith, WalksWith, register_in};
 ghost use Rattle.dw_unwind.specs.Contents.{contents_in};
 ghost use Rattle.dwcheck_c.specs.WalkCursors.{looked_up_by, place_of};
-ghost use Rattle.dwcheck_c.specs.CachedFills.{AreIn, IsFilled, IsOfFill, IsUsable as IsUsableRow, end_number};
-ghost use Rattle.dwcheck_c.specs.InPlaceLookUps.{IsLookedUp, IsUnusable, IsUsable};
+ghost use Rattle.dwcheck_c.specs.CachedFills.{AreIn, CanBeKept, FindsConfirmed, FindsIn, GoesOn, IsFilled, IsOfFill, end_number};
+ghost use Rattle.dwcheck_c.specs.InPlaceLookUps.{HasRow, IsLookedUp, IsUnusable, IsUsable};
 
 use crate::cursor::{CALLER, CCursor, EXACT};
 use crate::in_place::{CHeader, FoundInPlace, look_up, no_answer};
@@ -64,10 +69,12 @@ const LITTLE_64: Target = Target {
 fn keep_row(rows: &mut CachedRows, slot: u8, address: u64, found: &FoundInPlace<'_, '_>) -> u32
     requires { slot < SLOTS }
     ensures held { result ≡ DONE → HoldsInSet rows.new.rows slot address found.now.row
-        × IsUsableRow found.now.target (eh_fde_of found.now.fde) }
+        × CanBeKept found.now.target (eh_fde_of found.now.fde) }
     ensures only { (other at : ℕ) (held : Row) → Holds rows.new.rows other at held
-        → Holds rows.old.rows other at held ⊎ (IsUsableRow found.now.target (eh_fde_of found.now.fde)
+        → Holds rows.old.rows other at held ⊎ (CanBeKept found.now.target (eh_fde_of found.now.fde)
         × IsKept slot address found.now.row 16 false other at held) }
+    ensures dropped { result ≡ NO_PLACE → (other at : ℕ) (held : Row)
+        → Holds rows.new.rows other at held → Holds rows.old.rows other at held }
     ensures codes { (result ≡ DONE) ⊎ (result ≡ NO_PLACE) }
 {
     if found.target != LITTLE_64 {
@@ -114,6 +121,10 @@ pub extern "C" fn dwcheck_rows_fill(
     ensures only { (other at : ℕ) (held : Row) → Holds rows.new.rows other at held
         → Holds rows.old.rows other at held
         ⊎ IsOfFill module.now header.now (slot % SLOTS) address other at held }
+    ensures place { result ≡ NO_PLACE → (target : OfTarget) × (fde : EhFde) × (row : Row)
+        × HasRow module.now header.now address target fde row }
+    ensures dropped { result ≡ NO_PLACE → (other at : ℕ) (held : Row)
+        → Holds rows.new.rows other at held → Holds rows.old.rows other at held }
     ensures none { result ≡ NONE → IsLookedUp module.now header.now address (Ok None) }
     ensures refused { result ≡ REFUSED → (why : Why)
         × IsLookedUp module.now header.now address (Err why) × (fault.new ≡ cfault_of IN_FRAME why) }
@@ -154,7 +165,7 @@ pub extern "C" fn dwcheck_walk(
     count: &mut usize,
     stop: &mut u32,
 )
-    ensures passes { (stop.new ≡ stop_number Reason.Limit) ⊎ (MISSING ≤ stop.new)
+    ensures passes { GoesOn stop.new
         → Passes (over_cached rows.old.rows confirmed (byte_in blocks.now)) (byte_in blocks.now)
         place.old (take count.new addresses.new) place.new }
     ensures ended { (why : Reason) → stop.new ≡ stop_number why → why ≢ Reason.Limit
@@ -189,7 +200,7 @@ pub extern "C" fn dwcheck_walk_frames(
     count: &mut usize,
     stop: &mut u32,
 )
-    ensures walks { (stop.new ≡ stop_number Reason.Limit) ⊎ (MISSING ≤ stop.new)
+    ensures walks { GoesOn stop.new
         → WalksWith (over_cached rows.old.rows confirmed (byte_in blocks.now)) place.old
         (take count.new frames.new) place.new }
     ensures ended { (why : Reason) → stop.new ≡ stop_number why → why ≢ Reason.Limit
@@ -218,8 +229,10 @@ pub extern "C" fn dwcheck_walk_frames(
 /// cursor there is `EXACT`. None if the frame is looked up at neither of the addresses that a cursor
 /// may look up.
 fn stage_of(place: &RegisterPlace) -> Option<u32>
-    ensures { IfSome result (λ stage. (stage ≤ CALLER)
+    ensures stage { IfSome result (λ stage. (stage ≤ CALLER)
         × (looked_up_by stage place.now.address ≡ address_before place.now.key)) }
+    ensures none { result ≡ None → (place.now.key ≢ place.now.address)
+        × (place.now.key ≢ place.now.address + 1) }
 {
     if place.key == place.address {
         return Some(CALLER);
@@ -230,15 +243,9 @@ fn stage_of(place: &RegisterPlace) -> Option<u32>
     None
 }
 
-/// The registers of a place.
+/// The registers of a place. No other has a content.
 fn registers_of(place: &RegisterPlace) -> RegisterFile
-    ensures pointer { contents_in result RSP ≡ Some place.now.stack_pointer }
-    ensures rbx { contents_in result RBX ≡ Some place.now.rbx }
-    ensures rbp { contents_in result RBP ≡ Some place.now.rbp }
-    ensures r12 { contents_in result R12 ≡ Some place.now.r12 }
-    ensures r13 { contents_in result R13 ≡ Some place.now.r13 }
-    ensures r14 { contents_in result R14 ≡ Some place.now.r14 }
-    ensures r15 { contents_in result R15 ≡ Some place.now.r15 }
+    ensures { (r : ℕ) → contents_in result r ≡ register_in place.now r }
 {
     let mut registers = RegisterFile::none();
     registers.set(RSP, Some(place.stack_pointer));
@@ -256,7 +263,11 @@ fn registers_of(place: &RegisterPlace) -> RegisterFile
 #[unsafe(no_mangle)]
 pub extern "C" fn dwcheck_cursor_at_place(cursor: &mut CCursor, place: &RegisterPlace) -> u32
     ensures with { result ≡ DONE → IsWith place.now (place_of cursor.new) }
+    ensures others { result ≡ DONE → (r : ℕ)
+        → contents_in cursor.new.registers r ≡ register_in place.now r }
     ensures goes { result ≡ DONE → cursor.new.stage ≤ CALLER }
+    ensures refused { result ≡ NO_PLACE → (place.now.key ≢ place.now.address)
+        × (place.now.key ≢ place.now.address + 1) }
     ensures codes { (result ≡ DONE) ⊎ (result ≡ NO_PLACE) }
     ensures unwritten { result ≢ DONE → cursor.new ≡ cursor.old }
 {
@@ -317,4 +328,32 @@ pub extern "C" fn dwcheck_place_of_cursor(place: &mut RegisterPlace, cursor: &CC
         }
         None => NO_PLACE,
     }
+}
+
+/// Rows that C keeps are those of its modules, if it gives each module a slot of its own: in rows of
+/// zeros there are none; a fill, by what it promises, puts in one of the slot's module; and a slot
+/// that was forgotten may name another module. Then a walk with the rows of confirmed slots has the
+/// frames of a walk that looks each of them up in place.
+pub fn kept_rows_are_those_of_look_ups()
+    ensures zeros { (loaded : ℕ → Module × Header) (rows : List PackedRow)
+        → ((i : ℕ) → (entry_at rows i).key ≡ 0) → AreRowsOf (FindsIn loaded) rows }
+    ensures filled { (loaded : ℕ → Module × Header) (old new : List PackedRow) (slot address : ℕ)
+        → AreRowsOf (FindsIn loaded) old
+        → ((other at : ℕ) (held : Row) → Holds new other at held → Holds old other at held
+        ⊎ IsOfFill (loaded slot).0 (loaded slot).1 slot address other at held)
+        → AreRowsOf (FindsIn loaded) new }
+    ensures forgotten { (loaded next : ℕ → Module × Header) (old new : List PackedRow) (slot : ℕ)
+        → AreRowsOf (FindsIn loaded) old
+        → ((address : ℕ) (row : Row) → Holds new slot address row → ⊥)
+        → ((other address : ℕ) (row : Row) → other ≢ slot → Holds new other address row
+        → Holds old other address row)
+        → ((other : ℕ) → other ≢ slot → next other ≡ loaded other)
+        → AreRowsOf (FindsIn next) new }
+    ensures walks { (loaded : ℕ → Module × Header) (rows : List PackedRow) (confirmed : ℕ)
+        (memory : ℕ → Option ℕ) (from : Option Place) (frames : List WalkedFrame)
+        → AreRowsOf (FindsIn loaded) rows
+        → AreFrames (over_cached rows confirmed memory) from frames
+        → AreFrames (over_rows little_64 (FindsConfirmed loaded confirmed) x86_64 memory) from frames }
+{
+    dw_cached_rows::laws::rows_with_the_same_rules_give_the_same_callers();
 }

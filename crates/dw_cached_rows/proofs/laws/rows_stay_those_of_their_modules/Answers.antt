@@ -8,7 +8,8 @@ returns g c = λ module_of old new slot address column row is_signal has are onl
   | inr kept ↦ (
     row,
     subst (λ (s : ℕ). g.T.UnwindRows.finds (module_of s) at (Some (row, 16))) (sym kept.slot_is)
-        (subst (λ (a : ℕ). g.T.UnwindRows.finds (module_of slot) a (Some (row, 16))) (sym kept.address_is) has),
+        (subst (λ (a : ℕ). g.T.UnwindRows.finds (module_of slot) a (Some (row, 16))) (sym kept.address_is)
+        (subst (λ (n : ℕ). g.T.UnwindRows.finds (module_of slot) address (Some (row, n))) kept.column_is has)),
     kept.rules,
   )
 ]

@@ -2,4 +2,5 @@ use Rattle.dw_cached_rows.proofs.OverLookUps.{over-look-ups}
 use Rattle.dw_cached_rows.proofs.laws.walks_are_those_over_look_ups.Goals as goal
 
 pub returns : goal.returns
-returns g c = λ source rows confirmed memory. over-look-ups rows confirmed memory (g.T.UnwindRows.finds source)
+returns g c = λ source rows confirmed memory from frames target.
+    over-look-ups rows confirmed memory (g.T.UnwindRows.finds source) from frames

@@ -17,3 +17,11 @@ returns-else-keep-clause-only c = λ other at held is.
     let same : found.target ≡ little_64 = search rules in
     usable-kept c.args.rows.now.rows found.target (eh_fde_of found.fde) c.args.slot c.args.address found.row other at held same
     (c.keep.ensures.only other at held is)
+
+pub returns-then-keep-clause-held : goal.returns-then-keep-clause-held
+returns-then-keep-clause-held c = λ done.
+    let found = c.args.found.now in
+    let same : found.target ≡ little_64 = search rules in (
+      c.keep.ensures.held c.if-keep.true,
+      record { target_is = same; column = c.keep.ensures.column c.if-keep.true; called = c.keep.ensures.called c.if-keep.true },
+    )
