@@ -33,10 +33,10 @@
      meanwhile.
    - The stack is large enough. As measured on x86-64, dwcheck_backtrace and dwcheck_backtrace_cached take 1.7 KB,
      dwcheck_unwind 7.2 KB and dwcheck_cursor_step 1.6 KB; if a rule is an expression, 3.7, 7.6 and 3.6 KB; and the
-     first two take 18 KB if a register of 96 or more is known. dwcheck_row_in and dwcheck_step_in take 53 KB,
-     dwcheck_process_add 50 KB, dwcheck_module_check 45 KB, dwcheck_check and dwcheck_report 40 KB,
-     dwcheck_cursor_step_with 21 KB, dwcheck_evaluate 12 KB, dwcheck_process_share 5 KB, and every other call less
-     than 4 KB. A first call may take 3 KB more, in a program with libdwcheck.a that isn't linked with -Wl,-z,now.
+     first two take 18 KB if a register of 96 or more is known. dwcheck_row_in, dwcheck_step_in and
+     dwcheck_rows_fill take 53 KB, dwcheck_process_add 50 KB, dwcheck_module_check 45 KB, dwcheck_check and
+     dwcheck_report 40 KB, dwcheck_cursor_step_with 21 KB, dwcheck_evaluate 12 KB, dwcheck_process_share 5 KB, and every
+     other call less than 4 KB. A first call may take 3 KB more, in a program with libdwcheck.a that isn't linked with -Wl,-z,now.
    - Fields called `reserved` are set to 0. A later version may give them a meaning.
 
    A call writes its results only if it returns DONE, and `fault` only if it returns REFUSED, unless its comment says
@@ -435,14 +435,14 @@ uint32_t dwcheck_step_in(const dwcheck_module *module, const dwcheck_header *hea
 
    Each row is that of a module: the caller gives each module a slot, a number below 64. A walk uses only the rows of
    slots that the caller has confirmed for it, by the bits of a mask: that the slot's module is still loaded where it
-   was. So the caller owes one thing: a slot names one module, from the first dwcheck_rows_fill until
-   dwcheck_rows_forget. */
+   was. So a slot names one module, from the first dwcheck_rows_fill until dwcheck_rows_forget, and each address that
+   is filled in lies in that module. */
 typedef struct dwcheck_rows { uint64_t words[3361]; } dwcheck_rows;
 
 /* Looks `address` up in place, as dwcheck_row_in does, and keeps its row, which is the module's with the slot
    `slot` % 64. The row may take the place of another one. Returns DONE; NO_PLACE if there is a row that can't be kept,
    at which walks stop: one with an expression, say, or that of a signal frame; or any other status that dwcheck_row_in
-   returns, and then the rows are as they were. */
+   returns, and then the rows are as they were. The call takes as much stack as dwcheck_row_in. */
 uint32_t dwcheck_rows_fill(dwcheck_rows *rows, uint32_t slot, const dwcheck_module *module, const dwcheck_header *header,
                            uint64_t address, dwcheck_fault *fault);
 
@@ -451,24 +451,27 @@ void dwcheck_rows_forget(dwcheck_rows *rows, uint32_t slot);
 
 /* Where a walk with kept rows is: at the frame at `address`. The address that is looked up for it is `key` - 1; so for
    the first frame `key` is its address plus 1, and for a caller it is the return address, as `address` is. The content
-   of rsp is `stack_pointer`. That of rbp is frame_pointer if is_saved is 0, else it is in memory at that address. A
-   place is plain data of the caller's: any bytes are a place. */
+   of rsp is `stack_pointer`. That of rbp is frame_pointer if is_saved is 0, else it is in memory at that address, which
+   mustn't change before the last call with the place. A place is plain data of the caller's: any bytes are a place. */
 typedef struct dwcheck_place {
     uint64_t address, key, stack_pointer, frame_pointer; uint32_t is_saved, reserved;
 } dwcheck_place;
 
-/* More reasons why a walk stops, for dwcheck_walk alone. */
+/* More reasons why a walk with kept rows stops. Neither writes the frame at `place`. */
 enum {
-    DWCHECK_STOP_MISSING = 5, /* no row is kept for the frame: fill in that of the address `key` - 1, and go on */
-    DWCHECK_STOP_OTHER = 6    /* the frame needs a step of a cursor, since its row can't be kept, or rbp isn't known */
+    /* No row is kept for the frame. If `key` isn't 0, fill in the row of the address `key` - 1, and go on. If it is, or
+       if filling in returns NONE, no FDE covers the frame, and it is the last one. */
+    DWCHECK_STOP_MISSING = 5,
+    /* The frame needs a step of a cursor: its row can't be kept, or needs a register that the walk doesn't keep or know. */
+    DWCHECK_STOP_OTHER = 6
 };
 
 /* Walks up the stack from `place` with the rows of the slots whose bits are set in `confirmed`, and writes the addresses
    of the frames to `addresses`, the innermost first, as many as fit. `count` becomes their number, and `stop` the reason
-   why there are no more: LIMIT, RETURN_UNDEFINED, RETURN_UNREADABLE, MISSING or OTHER. `place` becomes that of the next
-   frame, from which a walk can go on; after RETURN_UNDEFINED and RETURN_UNREADABLE there is none. The frames are those
-   of the definition of walks, with these rows and with x86-64's callee-saved registers. Nothing is allocated, and the
-   call takes less than 1 KB of stack, so it may be made in a signal handler. */
+   why there are no more: LIMIT, RETURN_UNDEFINED, RETURN_UNREADABLE, MISSING or OTHER; a last frame that fills the array
+   has its own reason, not LIMIT. `place` becomes that of the next frame, from which a walk can go on; after
+   RETURN_UNDEFINED and RETURN_UNREADABLE it has no meaning. The frames are those of the definition of walks, with these
+   rows and with x86-64's callee-saved registers. Nothing is allocated, so the call may be made in a signal handler. */
 void dwcheck_walk(dwcheck_rows *rows, uint64_t confirmed, dwcheck_place *place, const dwcheck_block *blocks,
                   size_t blocks_length, uint64_t *addresses, size_t addresses_length, size_t *count, uint32_t *stop);
 
@@ -480,8 +483,8 @@ typedef struct dwcheck_register_place {
 /* A frame: where the walk was at it, and its CFA. */
 typedef struct dwcheck_register_frame { dwcheck_register_place place; uint64_t cfa; } dwcheck_register_frame;
 
-/* Walks as dwcheck_walk does, and writes each frame with its registers and its CFA. OTHER also says that a register is
-   saved where memory isn't known. After OTHER a cursor takes a step (dwcheck_cursor_at_place, dwcheck_step_in), and the
+/* Walks as dwcheck_walk does, and writes each frame with its registers and its CFA. It knows the CFA by any of its
+   registers; but OTHER also says that a register is saved where memory isn't known. After OTHER a cursor takes a step (dwcheck_cursor_at_place, dwcheck_step_in), and the
    walk goes on where the cursor is (dwcheck_place_of_cursor). */
 void dwcheck_walk_frames(dwcheck_rows *rows, uint64_t confirmed, dwcheck_register_place *place, const dwcheck_block *blocks,
                          size_t blocks_length, dwcheck_register_frame *frames, size_t frames_length, size_t *count,

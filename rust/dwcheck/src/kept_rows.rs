@@ -21,7 +21,7 @@ use std::fmt;
 /// ```
 /// # fn module_of(address: u64) -> Option<(u32, dwcheck::EhFrameInPlace<'static>)> { None }
 /// # fn addresses(rows: &mut dwcheck::KeptRows, mut place: dwcheck::StackPlace, stack: dwcheck::Block<'_>) -> usize {
-/// use dwcheck::KeptStop;
+/// use dwcheck::{Filled, KeptStop};
 ///
 /// let mut addresses = [0; 64];
 /// let mut count = 0;
@@ -31,7 +31,7 @@ use std::fmt;
 ///     // The row of the frame that the walk is at is missing: fill it in, and go on.
 ///     let (KeptStop::Missing, Some(address)) = (stop, place.looked_up()) else { break };
 ///     let Some((slot, module)) = module_of(address) else { break };
-///     if !matches!(rows.fill(slot, &module, address), Ok(true)) {
+///     if rows.fill(slot, &module, address) != Ok(Filled::Kept) {
 ///         break; // no row, or one that can't be kept
 ///     }
 /// }
@@ -77,7 +77,12 @@ impl StackPlace {
         self.raw.address
     }
 
-    /// The address that is looked up for the frame. `None` for a caller at address 0.
+    /// The content of rsp.
+    pub fn rsp(&self) -> u64 {
+        self.raw.stack_pointer
+    }
+
+    /// The address that is looked up for the frame. `None` for a caller at address 0: no FDE covers it.
     pub fn looked_up(&self) -> Option<u64> {
         self.raw.key.checked_sub(1)
     }
@@ -92,10 +97,12 @@ pub use dwcheck_sys::{RegisterFrame, RegisterPlace};
 pub enum KeptStop {
     /// There is no room for more.
     Full,
-    /// No row is kept for the frame that the walk is at.
+    /// No row is kept for the frame that the walk is at, which isn't written. If no FDE covers it, it is
+    /// the last one.
     Missing,
-    /// The frame that the walk is at needs a step of a [`Cursor`](crate::Cursor): its row can't be
-    /// kept, or needs a register that isn't known.
+    /// The frame that the walk is at needs a step of a [`Cursor`](crate::Cursor), and isn't written: its
+    /// row can't be kept, or needs a register that the walk doesn't keep or know. Only
+    /// [`walk_frames`](KeptRows::walk_frames) has the registers for that.
     Other,
     /// The return address of the last frame is undefined: the walk is complete.
     ReturnUndefined,
@@ -103,6 +110,18 @@ pub enum KeptStop {
     ReturnUnreadable,
     /// A reason that this version doesn't know.
     Unknown(u32),
+}
+
+/// What filling in a row has done.
+#[derive(Clone, Copy, Debug, PartialEq, Eq, Hash)]
+pub enum Filled {
+    /// The row is kept.
+    Kept,
+    /// There is a row, but it can't be kept: one with an expression, say, or that of a signal frame. A
+    /// walk stops there with [`KeptStop::Other`].
+    CannotKeep,
+    /// No FDE covers the address.
+    NotCovered,
 }
 
 impl KeptStop {
@@ -127,8 +146,7 @@ impl KeptRows {
     }
 
     /// Looks up the row of an address in place, and keeps it as one of the module with the slot `slot`
-    /// modulo 64. Whether it is kept: a row with an expression can't be, nor that of a signal frame, or
-    /// if no FDE covers the address. It may take the place of another row.
+    /// modulo 64. It may take the place of another row.
     ///
     /// # Errors
     ///
@@ -138,7 +156,7 @@ impl KeptRows {
         slot: u32,
         module: &EhFrameInPlace<'_>,
         address: u64,
-    ) -> Result<bool, Error> {
+    ) -> Result<Filled, Error> {
         let mut fault = ffi::Fault::default();
         let (section, header) = module.raw();
         // SAFETY: the section and its header are only read, and the other pointers are borrowed exclusively.
@@ -146,8 +164,9 @@ impl KeptRows {
             ffi::dwcheck_rows_fill(&mut self.raw, slot, &section, &header, address, &mut fault)
         };
         match status {
-            ffi::NONE | ffi::NO_PLACE => Ok(false),
-            _ => Error::check(status, fault).map(|()| true),
+            ffi::NONE => Ok(Filled::NotCovered),
+            ffi::NO_PLACE => Ok(Filled::CannotKeep),
+            _ => Error::check(status, fault).map(|()| Filled::Kept),
         }
     }
 

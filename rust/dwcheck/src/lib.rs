@@ -78,7 +78,7 @@ pub use expression::{
 pub use fault::{Error, Fault, FaultKind, Section};
 pub use frame_section::{Contents, FrameSection, Record, RecordKind, Records};
 pub use in_place::EhFrameInPlace;
-pub use kept_rows::{KeptRows, KeptStop, RegisterFrame, RegisterPlace, StackPlace};
+pub use kept_rows::{Filled, KeptRows, KeptStop, RegisterFrame, RegisterPlace, StackPlace};
 pub use lists::{list_locations, locations, Lookup};
 pub use module::{EhFrame, LoadedModule, Module, ModuleId};
 pub use process::Process;

@@ -1,8 +1,8 @@
 //! Walks with rows that are kept.
 
 use dwcheck::{
-    Block, Cursor, EhFrame, EhFrameInPlace, KeptRows, KeptStop, RegisterFrame, RegisterPlace,
-    StackPlace, Target,
+    Block, Cursor, EhFrame, EhFrameInPlace, Filled, KeptRows, KeptStop, RegisterFrame,
+    RegisterPlace, StackPlace, Target,
 };
 
 /// A CIE and an FDE of 0x1009 to 0x100b, at 0x2000: the CFA is rsp plus 8, the return address just below.
@@ -49,7 +49,7 @@ fn a_walk_stops_where_a_row_is_missing_and_goes_on_once_it_is_filled_in() {
         (0, KeptStop::Missing)
     );
     assert_eq!(place.looked_up(), Some(0x40_1009));
-    assert_eq!(rows.fill(5, &module(), 0x40_1009), Ok(true));
+    assert_eq!(rows.fill(5, &module(), 0x40_1009), Ok(Filled::Kept));
     assert_eq!(
         rows.walk(!0, &mut place, &memory, &mut addresses),
         (2, KeptStop::Missing)
@@ -65,7 +65,7 @@ fn rows_of_slots_that_are_not_confirmed_or_forgotten_are_not_used() {
     let first = StackPlace::first(0x40_1009, 0x7000, 0);
     let mut rows = Box::new(KeptRows::new());
     let mut addresses = [0; 1];
-    assert_eq!(rows.fill(5, &module(), 0x40_1009), Ok(true));
+    assert_eq!(rows.fill(5, &module(), 0x40_1009), Ok(Filled::Kept));
 
     assert_eq!(
         rows.walk(!(1 << 5), &mut first.clone(), &memory, &mut addresses),
@@ -92,7 +92,7 @@ fn frames_have_their_registers_and_their_cfas() {
     let bytes = stack();
     let memory = [Block::new(0x7000, &bytes)];
     let mut rows = Box::new(KeptRows::new());
-    assert_eq!(rows.fill(0, &module(), 0x40_1009), Ok(true));
+    assert_eq!(rows.fill(0, &module(), 0x40_1009), Ok(Filled::Kept));
     let first = RegisterPlace {
         address: 0x40_1009,
         key: 0x40_100a,
@@ -131,7 +131,7 @@ fn frames_have_their_registers_and_their_cfas() {
 #[test]
 fn an_address_without_a_row_is_not_kept() {
     let mut rows = Box::new(KeptRows::new());
-    assert_eq!(rows.fill(0, &module(), 0x40_100c), Ok(false));
+    assert_eq!(rows.fill(0, &module(), 0x40_100c), Ok(Filled::NotCovered));
 }
 
 #[test]
