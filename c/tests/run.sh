@@ -1,9 +1,9 @@
 #!/bin/bash
 # Builds the tests with the static library build/libdwcheck.a, or the one that LIBRARY names, and runs
 # them: those of readers.c, frozen.c, cursor.c, cache.c, dl.c, own_rows.c, both.c and changed.c; those of
-# in_place.c, plainly, with sanitizers and under valgrind; those of wrapper.cc, as C++17, as C++20 and
-# over the module; and those of cases.c while allocations fail in turn, with sanitizers, and under
-# valgrind. Before that, the headers are compiled as C11, C17 and C++17; passing a pointer of a wrong
+# in_place.c and kept_rows.c, plainly, with sanitizers and under valgrind; those of wrapper.cc, as C++17,
+# as C++20 and over the module; and those of cases.c while allocations fail in turn, with sanitizers, and
+# under valgrind. Before that, the headers are compiled as C11, C17 and C++17; passing a pointer of a wrong
 # type must be an error.
 # Prints a line `ok NAME` or `FAILED NAME` for each, and ends with status 1 if one failed.
 set -u
@@ -55,6 +55,20 @@ in_place_under_valgrind() {
     build_in_place && valgrind -q --error-exitcode=1 "$out/in_place" "$(cc -print-file-name=libc.so.6)" 37
 }
 
+build_kept_rows() { # FLAG..: builds the tests of walks with kept rows, and a library that calls back
+    build_called &&
+        cc -std=gnu11 -D_GNU_SOURCE $strict -O2 -g "$@" "$top/c/tests/kept_rows.c" "$library" -Wl,--wrap=malloc,--wrap=realloc \
+            -o "$out/kept_rows" -pthread -ldl
+}
+
+kept_rows() { # FLAG..: builds these tests and runs them
+    build_kept_rows "$@" && "$out/kept_rows" "$out/called.so"
+}
+
+kept_rows_under_valgrind() {
+    build_kept_rows && valgrind -q --error-exitcode=1 "$out/kept_rows" "$out/called.so" 1000
+}
+
 compile_module() { # OBJECT COMMAND..: compiles the module of LLVM as the kit does, and takes its code apart
     local object=$1
     shift
@@ -93,9 +107,13 @@ own_rows() { # builds the tests of walks that interrupt the library, and runs th
         "$out/own_rows"
 }
 
-dl() { # builds the tests of dwcheck-dl, and runs them with a library that comes and goes
+build_called() { # a library whose only function calls back
     printf 'void call_back(void (*f)(void)); void call_back(void (*f)(void)) { f(); __asm__ volatile(""); }\n' |
-        cc -O2 -fPIC -shared -x c - -o "$out/called.so" &&
+        cc -O2 -fPIC -shared -x c - -o "$out/called.so"
+}
+
+dl() { # builds the tests of dwcheck-dl, and runs them with a library that comes and goes
+    build_called &&
         cc -std=gnu11 $strict -O2 -g -fno-optimize-sibling-calls -fno-omit-frame-pointer "$top/c/tests/dl.c" "$dl_library" "$library" -o "$out/dl" \
             -pthread -ldl && "$out/dl" "$out/called.so"
 }
@@ -191,6 +209,9 @@ test_of "walks with a cache" readers cache
 test_of "look-ups in place" in_place
 test_of "the same with ASan and UBSan" in_place -fsanitize=address,undefined -fno-sanitize-recover=all
 test_of "the same under valgrind" in_place_under_valgrind
+test_of "walks with kept rows" kept_rows
+test_of "walks with kept rows, with ASan and UBSan" kept_rows -fsanitize=address,undefined -fno-sanitize-recover=all
+test_of "walks with kept rows under valgrind" kept_rows_under_valgrind
 test_of "stacks of dwcheck-dl are glibc's, while libraries come and go" dl
 test_of "rows are given to the code of a module, which stays the same" rows_of_modules
 test_of "a module without attributes is compiled" modules_without_attributes
