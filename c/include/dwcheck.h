@@ -436,13 +436,15 @@ uint32_t dwcheck_step_in(const dwcheck_module *module, const dwcheck_header *hea
    Each row is that of a module: the caller gives each module a slot, a number below 64. A walk uses only the rows of
    slots that the caller has confirmed for it, by the bits of a mask: that the slot's module is still loaded where it
    was. So a slot names one module, from the first dwcheck_rows_fill until dwcheck_rows_forget, and each address that
-   is filled in lies in that module. */
+   is filled in lies in that module. If siglongjmp leaves a fill or a forget, or a fork copies one that is under way,
+   the rows have to be zeros again. */
 typedef struct dwcheck_rows { uint64_t words[3361]; } dwcheck_rows;
 
 /* Looks `address` up in place, as dwcheck_row_in does, and keeps its row, which is the module's with the slot
    `slot` % 64. The row may take the place of another one. Returns DONE; NO_PLACE if there is a row that can't be kept,
-   at which walks stop: one with an expression, say, or that of a signal frame; or any other status that dwcheck_row_in
-   returns, and then the rows are as they were. The call takes as much stack as dwcheck_row_in. */
+   at which walks stop: one with an expression, say, or that of a signal frame, or any row of another target than
+   little-endian with addresses of 8 bytes; or any other status that dwcheck_row_in returns, and then the rows are as
+   they were. The call takes as much stack as dwcheck_row_in. */
 uint32_t dwcheck_rows_fill(dwcheck_rows *rows, uint32_t slot, const dwcheck_module *module, const dwcheck_header *header,
                            uint64_t address, dwcheck_fault *fault);
 
@@ -450,7 +452,8 @@ uint32_t dwcheck_rows_fill(dwcheck_rows *rows, uint32_t slot, const dwcheck_modu
 void dwcheck_rows_forget(dwcheck_rows *rows, uint32_t slot);
 
 /* Where a walk with kept rows is: at the frame at `address`. The address that is looked up for it is `key` - 1; so for
-   the first frame `key` is its address plus 1, and for a caller it is the return address, as `address` is. The content
+   the first frame, or one that a signal has interrupted, `key` is its address plus 1, and for a caller it is the return
+   address, as `address` is. The content
    of rsp is `stack_pointer`. That of rbp is frame_pointer if is_saved is 0, else it is in memory at that address, which
    mustn't change before the last call with the place. A place is plain data of the caller's: any bytes are a place. */
 typedef struct dwcheck_place {
