@@ -487,8 +487,8 @@ typedef struct dwcheck_register_place {
 typedef struct dwcheck_register_frame { dwcheck_register_place place; uint64_t cfa; } dwcheck_register_frame;
 
 /* Walks as dwcheck_walk does, and writes each frame with its registers and its CFA. It knows the CFA by any of its
-   registers; but OTHER also says that a register is saved where memory isn't known. After OTHER a cursor takes a step (dwcheck_cursor_at_place, dwcheck_step_in), and the
-   walk goes on where the cursor is (dwcheck_place_of_cursor). */
+   registers; but OTHER also says that a register is saved where memory isn't known. After OTHER a cursor takes a step
+   (dwcheck_cursor_at_place, dwcheck_step_in), and the walk goes on where the cursor is (dwcheck_place_of_cursor). */
 void dwcheck_walk_frames(dwcheck_rows *rows, uint64_t confirmed, dwcheck_register_place *place, const dwcheck_block *blocks,
                          size_t blocks_length, dwcheck_register_frame *frames, size_t frames_length, size_t *count,
                          uint32_t *stop);
