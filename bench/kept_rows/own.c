@@ -60,7 +60,7 @@ static dwcheck_fault fault;
 static const uint16_t kept[] = {3, 6, 12, 13, 14, 15};
 static dwcheck_block stack;
 static dwcheck_state state = {.blocks = &stack, .blocks_length = 1, .kept = kept, .kept_length = 6, .stack_pointer = 7, .has_stack_pointer = 1};
-static unsigned long stops, frames, fills, steps, wrong, signal_stops;
+static unsigned long stops, frames, fills, steps, wrong, signal_stops, outside;
 static int (*glibc_backtrace)(void **, int);
 static void *theirs[ROOM];
 
@@ -110,6 +110,9 @@ static dwcheck_place place_of(const dwcheck_cursor *cursor)
     return place;
 }
 
+/* Whether the last walk ended where the stack can't be read: outside of the stack, where glibc may go on. */
+static bool is_unreadable;
+
 /* Walks from the place of `start` to the last frame. */
 static size_t walk(const dwcheck_cursor *start, uint64_t *found)
 {
@@ -126,15 +129,18 @@ static size_t walk(const dwcheck_cursor *start, uint64_t *found)
             uint32_t status = module ? dwcheck_rows_fill(&rows, (uint32_t)(module - loaded), &module->module, &module->header, place.key - 1, &fault) : DWCHECK_NONE;
             fills++;
             if (status == DWCHECK_DONE || status == DWCHECK_NO_PLACE) continue;
+            is_unreadable = false;
             if (count < ROOM) found[count++] = place.address; /* the last frame, which no row covers */
             return count;
         }
+        is_unreadable = stop == DWCHECK_STOP_RETURN_UNREADABLE;
         if (stop != DWCHECK_STOP_OTHER) return count;
         for (; at_cursor < count; at_cursor++)
             if (!step(&cursor, &address) || address != found[at_cursor]) wrong++;
         steps++, at_cursor++;
         bool goes_on = step(&cursor, &address);
         found[count++] = address;
+        is_unreadable = cursor.stage == DWCHECK_STOP_RETURN_UNREADABLE + 1;
         if (!goes_on) return count;
         place = place_of(&cursor);
     }
@@ -159,6 +165,7 @@ static void compare(const dwcheck_cursor *start, size_t their_count, size_t from
     if (their_count) {
         /* glibc leaves out a last address of 0, where a walk has gone astray. */
         differs = own_count - (own_count > 1 && own_found[own_count - 1] == 0) != their_count - from;
+        if (is_unreadable && own_count < their_count - from) differs = false, outside++;
         for (size_t i = 0; i < own_count && i + from < their_count; i++) differs |= own_found[i] != (uint64_t)theirs[i + from];
         if (differs) show("glibc", own_count, their_count, from);
     }
@@ -251,6 +258,6 @@ void own_start(void)
 
 int own_report(const char *name)
 {
-    printf("%s: %lu stops, %lu of them through a signal frame, %lu frames, %lu fills, %lu steps, %lu faults of glibc's: %lu wrong\n", name, stops, signal_stops, frames, fills, steps, faults, wrong);
+    printf("%s: %lu stops, %lu of them through a signal frame, %lu frames, %lu fills, %lu steps, %lu faults of glibc's, %lu walks out of the stack: %lu wrong\n", name, stops, signal_stops, frames, fills, steps, faults, outside, wrong);
     return wrong != 0;
 }
