@@ -625,8 +625,8 @@ static void step(struct stack_walk *w) {
     uint64_t contents[17] = {[RSP] = w->place.stack_pointer, [RBP] = w->place.frame_pointer, [RIP] = w->place.address};
     const uint8_t known[] = {1 << RSP | 1 << RBP, 0, 1};
     const dwcheck_state state = {.contents = contents, .contents_length = 17, .known = known, .known_length = 3,
-                                 .blocks = w->blocks, .blocks_length = w->blocks_length, .kept = kept, .kept_length = 6,
-                                 .stack_pointer = RSP, .has_stack_pointer = 1};
+                                 .blocks = w->blocks, .blocks_length = w->blocks_length,
+                                 .kept = kept, .kept_length = 6, .stack_pointer = RSP, .has_stack_pointer = 1};
     dwcheck_cursor cursor;
     dwcheck_frame frame;
     dwcheck_fault fault;
@@ -658,7 +658,7 @@ static void walk_all(struct stack_walk *w) {
         } else if (w->stop == DWCHECK_STOP_OTHER) {
             step(w);
         }
-    } while (w->stop == DWCHECK_STOP_MISSING || w->stop == DWCHECK_STOP_OTHER);
+    } while ((w->stop == DWCHECK_STOP_MISSING || w->stop == DWCHECK_STOP_OTHER) && w->fills + w->steps < 2 * ROOM);
 }
 
 static int (*glibc_backtrace)(void **frames, int room); /* not that of a sanitizer */
@@ -861,13 +861,15 @@ static uint64_t compares_at_a_call(void) {
         memset(&rows, 0, sizeof rows);
         walk_all(&w);
         IS(w.found[0], starts[i]);
-        w.count--, memmove(w.found, w.found + 1, w.count * 8);
+        if (w.count) w.count--;
+        memmove(w.found, w.found + 1, w.count * 8);
         is_theirs(&w, 0);
     }
     return (uint64_t)stacks++;
 }
 
-static function const shapes[] = {plain, saves, framed, grows, saves_all, large, realigns, sorts, calls_back, raises};
+static function const shapes[] = {plain, saves, framed, grows, saves_all,
+                                  large, realigns, sorts, calls_back, raises};
 enum { SHAPES = sizeof shapes / sizeof *shapes };
 
 /* Calls these functions, of which the last one calls `last`. */
