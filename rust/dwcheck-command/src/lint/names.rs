@@ -86,6 +86,6 @@ impl<'n> Names<'n> {
         let (path, program) = separate.map_or((path, self.program), |(path, separate)| (path.as_path(), separate));
         let shared = self.files.shared(path, program).ok().flatten();
         let shared = shared.and_then(|bytes| Program::read(bytes).ok());
-        Lines::read(program, shared.as_ref(), self.files.unpacked())
+        Lines::read(program, shared.as_ref(), self.files)
     }
 }
