@@ -211,15 +211,15 @@ def judge_lint(bench, good):
     server = Server(missing)
     for urls, words in ((server.url, ["--no-debuginfod"]), (None, []), ("", [])):
         out, why, _ = bench.lint(urls, *words, *files)
-        bench.check("without a server findings have addresses", out.count("push without row at 0x") == len(files) and not why, out, why)
+        bench.check("without a server findings have addresses", out.count("push without row at a function without a name (0x") == len(files) and not why, out, why)
     bench.lint(server.url, "right.so")
     bench.check("nothing is asked for a library without findings", not server.asked, server.asked)
     server = Server(silent)
     out, why, took = bench.lint(server.url, "--jobs", "2", *files)
     bench.check(f"a silent server takes {took:.1f} s and is asked {len(server.asked)} times, and findings are shown",
-                took < TIMEOUT + 3 and out.count("push without row at 0x") == len(files) and "not asked again" in why, out, why)
+                took < TIMEOUT + 3 and out.count("push without row at a function without a name (0x") == len(files) and "not asked again" in why, out, why)
     out, why, _ = bench.lint(Server(lies(bench.folder / "other")).url, *files)
-    bench.check("another file names nothing", out.count("push without row at 0x") == len(files) and why.count("build id") == len(files), out, why)
+    bench.check("another file names nothing", out.count("push without row at a function without a name (0x") == len(files) and why.count("build id") == len(files), out, why)
 
 
 def judge_off(bench):
