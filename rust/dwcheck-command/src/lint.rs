@@ -1,9 +1,11 @@
 //! The command `lint`: compares the rows of programs with their code.
 
 mod linted;
+mod names;
 mod sarif;
 
 use crate::arguments::LintArguments;
+use crate::debuginfod::{fetcher, note_problems};
 use crate::end::{Done, Failure};
 use crate::findings::{collect, kind_of_name, warn_of_file, Collected, Findings};
 use crate::known::Known;
@@ -29,13 +31,15 @@ pub fn lint(arguments: &LintArguments, out: &mut impl Write) -> Result<Done, Fai
     let kind_names: Vec<_> = KINDS.iter().map(|(_, name)| *name).collect();
     let known = Known::of_run(arguments.known.as_deref(), "lint", &kind_names)?;
     let (private, explain, json, sarif) = (arguments.private, arguments.explain, arguments.json, arguments.sarif);
-    let shown = Shown { private, explain, json, sarif, kinds, kind_names };
+    let fetcher = fetcher(arguments.debuginfod);
+    let shown = Shown { private, explain, json, sarif, kinds, kind_names, fetcher };
     let Collected { all, unread } = collect(&arguments.paths, arguments.jobs, |path| lint_file(path, &shown))?;
     let mut totals = Totals { unread, ..Totals::default() };
     for one in all {
         totals.write_linted(out, one, arguments, &known)?;
     }
     totals.write_lint_totals(out, arguments)?;
+    note_problems(&shown.fetcher);
     Ok(totals.findings.done(totals.unread))
 }
 

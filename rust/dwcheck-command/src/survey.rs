@@ -9,6 +9,7 @@ use crate::arguments::SurveyArguments;
 use crate::end::{shown_path, Done, Failure};
 use crate::opened::{write_defect, write_note};
 use crate::pool::thread_pool;
+use dwcheck_elf::debug_files::DebugFiles;
 use dwcheck_elf::fault::Defect;
 use dwcheck_elf::frames::{Counts, Name, Notes};
 use dwcheck_elf::inspect::{inspect, inspect_frame_sections, inspect_sframe, Check, Inspected, Verdict};
@@ -26,7 +27,6 @@ use std::path::PathBuf;
 use std::sync::mpsc::{self, Receiver};
 use std::thread;
 use totals::Totals;
-use typed_arena::Arena;
 
 /// The result of checking a file.
 pub struct Surveyed {
@@ -215,8 +215,8 @@ fn survey_bytes(path: PathBuf, data: &[u8], asked: Asked) -> Surveyed {
 
 /// Looks up the source line of each fault.
 fn find_source_lines(program: &Program<'_>, sections: &mut [Section]) {
-    let unpacked = Arena::new();
-    let lines = match Lines::read(program, None, &unpacked) {
+    let files = DebugFiles::default();
+    let lines = match Lines::read(program, None, &files) {
         Some(lines) => lines,
         None => return,
     };

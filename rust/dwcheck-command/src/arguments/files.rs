@@ -1,6 +1,6 @@
 //! The arguments of the commands that go through many files: `survey`, `lint`, `compare`, `symbols` and `report`.
 
-use super::Notes;
+use super::{DebuginfodArguments, Notes};
 use clap::Args;
 use std::ffi::OsString;
 use std::path::PathBuf;
@@ -63,6 +63,8 @@ pub struct LintArguments {
     /// are those whose code the program runs
     #[arg(long, requires = "program", conflicts_with_all = ["explain", "json", "sarif", "known", "kind", "private", "jobs"])]
     pub confirm: bool,
+    #[command(flatten)]
+    pub debuginfod: DebuginfodArguments,
     /// The program, and its arguments
     #[arg(last = true, requires = "confirm", value_name = "PROGRAM ARGUMENTS")]
     pub program: Vec<OsString>,

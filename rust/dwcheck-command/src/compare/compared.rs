@@ -14,7 +14,6 @@ use dwcheck_symbols::{debug_id, Identity};
 use serde_json::{json, Value};
 use std::io;
 use std::path::{Path, PathBuf};
-use typed_arena::Arena;
 
 /// What is shown.
 pub struct Shown {
@@ -134,8 +133,8 @@ fn symbol_file(path: &Path, program: &Program<'_>, store: &Path, unused: &mut Ve
 fn write_findings(path: &Path, program: &Program<'_>, found: &Compared, shown: &Shown) -> Vec<WrittenFinding> {
     let functions: Functions<'_> = program.functions();
     let image = program.image();
-    let unpacked = Arena::new();
-    let lines = shown.sarif.then(|| Lines::read(program, None, &unpacked)).flatten();
+    let files = DebugFiles::default();
+    let lines = shown.sarif.then(|| Lines::read(program, None, &files)).flatten();
     let machine = LintError::of(program).ok();
     let file = File { path, functions: &functions, image: &image, lines, machine, shown };
     let of_header = found.header.iter().flat_map(|header| &header.differences);

@@ -1,14 +1,14 @@
 //! Lints one file: its findings as they are written, and how much of it was judged.
 
+use super::names::Names;
 use super::sarif;
 use crate::findings::WrittenFinding;
 use crate::known::Key;
 use crate::survey::files::map_file;
+use dwcheck_elf::debug_files::DebugFiles;
+use dwcheck_elf::fetch::Fetcher;
 use dwcheck_elf::frames::Name;
-use dwcheck_elf::functions::Functions;
-use dwcheck_elf::lines::Lines;
 use dwcheck_elf::lint::{LintError, Sections};
-use dwcheck_elf::names::FunctionOffset;
 use dwcheck_elf::program::Program;
 use dwcheck_elf::sframe::SframeSection;
 use dwcheck_lint::coverage::Coverage;
@@ -19,7 +19,6 @@ use dwcheck_lint::kinds::Kind;
 use dwcheck_lint::lint::Lint;
 use dwcheck_lint::module::Module;
 use std::path::{Path, PathBuf};
-use typed_arena::Arena;
 
 /// How many lines of an explanation are shown before a change of what is wrong, and after it.
 const AROUND: (usize, usize) = (4, 2);
@@ -38,6 +37,8 @@ pub struct Shown {
     pub kinds: Vec<Kind>,
     /// The names of all kinds.
     pub kind_names: Vec<&'static str>,
+    /// What fetches separate files of debug information that aren't here.
+    pub fetcher: Fetcher,
 }
 
 /// The result for a file.
@@ -79,12 +80,12 @@ fn lint_bytes(path: &Path, data: &[u8], shown: &Shown) -> Outcome {
         Ok(module) => module,
         Err(error) => return Outcome::Other(error),
     };
-    let unpacked = Arena::new();
-    let lines = shown.sarif.then(|| Lines::read(&program, None, &unpacked)).flatten();
+    let files = DebugFiles::default().fetching(&shown.fetcher);
+    let names = Names::of(path, &program, &functions, &files, shown.sarif);
     let (mut unused, mut texts) = (sections.unused.clone(), Vec::new());
     let (mut findings, mut coverage) = (Vec::new(), Coverage::default());
     let mut add = |module: &Module<'_>| {
-        let file = File { path, module, functions: &functions, lines: lines.as_ref() };
+        let file = File { path, module, names: &names };
         let (found, judged) = file.judged(shown);
         texts.push(file.coverage(&judged, shown));
         findings.extend(found);
@@ -99,15 +100,15 @@ fn lint_bytes(path: &Path, data: &[u8], shown: &Shown) -> Outcome {
         },
         Err(error) => unused.push(error.to_string()),
     }
+    unused.extend(names.problem());
     Outcome::Judged { findings, coverage: Box::new(coverage), unused, text: texts.join("\n") }
 }
 
 /// A file whose findings are written.
-struct File<'a, 'm, 'l> {
+struct File<'a, 'm, 'n> {
     path: &'a Path,
     module: &'a Module<'m>,
-    functions: &'a Functions<'a>,
-    lines: Option<&'a Lines<'l>>,
+    names: &'a Names<'n>,
 }
 
 impl<'m> File<'_, 'm, '_> {
@@ -123,12 +124,8 @@ impl<'m> File<'_, 'm, '_> {
         (findings.collect(), report.coverage)
     }
 
-    fn name(&self, address: u64) -> Option<String> {
-        FunctionOffset::at(self.functions, address).map(|spot| spot.to_string())
-    }
-
     fn written(&self, finding: &Finding<'m>, lint: &mut Lint<'m>, shown: &Shown) -> WrittenFinding {
-        let names = |address| self.name(address);
+        let names = |address| self.names.function(address);
         let mut text = format!("{}: {}", crate::end::shown_path(self.path), Text(self.module, finding, &names));
         let key = Key::of(text.lines().next().unwrap_or(""), &shown.kind_names);
         if shown.json {
@@ -144,9 +141,9 @@ impl<'m> File<'_, 'm, '_> {
     /// A finding, whose text this is, as a result of SARIF.
     fn result(&self, finding: &Finding<'m>, text: &str) -> serde_json::Value {
         let address = finding.mark.address;
-        let line = self.lines.and_then(|lines| lines.line(address));
+        let line = self.names.line(address);
         let message = text.get(crate::end::shown_path(self.path).len() + 2..).unwrap_or(text);
-        sarif::finding_as_result(self.path, self.module, finding, message, self.name(address), line)
+        sarif::finding_as_result(self.path, self.module, finding, message, self.names.function(address), line)
     }
 
     /// How much of the file was judged.

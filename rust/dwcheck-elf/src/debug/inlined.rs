@@ -8,7 +8,7 @@ mod unit_lines;
 mod whole_units;
 
 pub(crate) use unit_lines::LineRange;
-pub(crate) use whole_units::{UnitFunction, WholeUnit, WholeUnits};
+pub(crate) use whole_units::{UnitFunction, UnitSource, WholeUnit, WholeUnits};
 
 use crate::debug::debug_info::Slice;
 use crate::elf::program::Program;
@@ -54,8 +54,13 @@ struct Info<'s> {
 impl<'s> Info<'s> {
     /// The units up to one that can't be read.
     fn of(dwarf: Dwarf<Slice<'s>>) -> Info<'s> {
+        Info::of_each(dwarf, |_| {})
+    }
+
+    /// The same. `note` is told of each unit.
+    fn of_each(dwarf: Dwarf<Slice<'s>>, mut note: impl FnMut(&UnitHeader<Slice<'s>>)) -> Info<'s> {
         let mut units = dwarf.units();
-        let headers = std::iter::from_fn(|| units.next().ok().flatten()).collect();
+        let headers = std::iter::from_fn(|| units.next().ok().flatten()).inspect(|header| note(header)).collect();
         Info { dwarf, headers }
     }
 

@@ -1,11 +1,13 @@
 //! Finds the source lines and the inlined functions of addresses, by the debug information of a
 //! program.
 
-use crate::debug::debug_info::{self, file_path, Slice};
+use crate::debug::debug_info::{file_path, Slice};
+use crate::elf::compressed::SectionBytes;
+use crate::elf::debug_files::DebugFiles;
+use crate::elf::mapped::Bytes;
 use crate::elf::program::Program;
-use gimli::{AttributeValue, Dwarf, EndianSlice, SectionId, Unit, UnitOffset};
+use gimli::{AttributeValue, Dwarf, EndianSlice, SectionId, Unit, UnitOffset, UnitSectionOffset};
 use once_cell::unsync::OnceCell;
-use typed_arena::Arena;
 
 /// A line of a source file.
 #[derive(Clone, Debug, PartialEq, Eq)]
@@ -30,6 +32,8 @@ pub struct At {
 /// The debug information of a program.
 pub struct Lines<'a> {
     context: addr2line::Context<Slice<'a>>,
+    /// The file into which `.debug_info` was decompressed.
+    info: Option<Bytes>,
     /// Whether the entries of a unit are deeper than [`DEEPEST`], once that was asked.
     is_deep: OnceCell<bool>,
 }
@@ -37,6 +41,9 @@ pub struct Lines<'a> {
 /// How deep the entries of a unit may be. `addr2line` reads functions that are inlined in each other by calls in each
 /// other.
 const DEEPEST: isize = 1024;
+
+/// How many bytes before a unit are given back when it is read.
+const LEFT: usize = 1 << 20;
 
 /// The sections that are read.
 const NEEDED: [SectionId; 10] = [
@@ -54,22 +61,26 @@ const NEEDED: [SectionId; 10] = [
 
 impl<'a> Lines<'a> {
     /// Opens the debug information of a program, with that of the file that its `.gnu_debugaltlink`
-    /// names. Sections that are compressed are decompressed into `unpacked`. `None` if the program has
-    /// no debug information that can be read.
-    pub fn read(program: &Program<'a>, shared: Option<&Program<'a>>, unpacked: &'a Arena<Vec<u8>>) -> Option<Self> {
+    /// names. `files` keeps what is decompressed. `None` if the program has no debug information that can be read.
+    pub fn read(program: &Program<'a>, shared: Option<&Program<'a>>, files: &'a DebugFiles) -> Option<Self> {
         if !program.has_section(".debug_info") {
             return None;
         }
-        let section = |program: &Program<'a>, id: SectionId| {
-            let empty = EndianSlice::new(&[][..], program.target().gimli_order());
-            let read = NEEDED.contains(&id).then(|| debug_info::debug_section_bytes(program, id, unpacked));
-            Ok::<_, gimli::Error>(read.and_then(Result::ok).unwrap_or(empty))
+        let mut info = None;
+        let mut section = |program: &Program<'a>, id: SectionId| {
+            let read = NEEDED.contains(&id).then(|| program.debug_section_in_file(id.name()).ok().flatten());
+            let bytes = read.flatten().unwrap_or_default();
+            if let (SectionId::DebugInfo, SectionBytes::InFile(bytes)) = (id, &bytes) {
+                info.get_or_insert_with(|| bytes.clone());
+            }
+            Ok::<_, gimli::Error>(EndianSlice::new(files.keep(bytes), program.target().gimli_order()))
         };
         let mut dwarf = Dwarf::load(|id| section(program, id)).ok()?;
         if let Some(shared) = shared {
             dwarf.load_sup(|id| section(shared, id)).ok()?;
         }
-        addr2line::Context::from_dwarf(dwarf).ok().map(|context| Lines { context, is_deep: OnceCell::new() })
+        let context = addr2line::Context::from_dwarf(dwarf).ok()?;
+        Some(Lines { context, info, is_deep: OnceCell::new() })
     }
 
     /// The line of an address. `None` if no table has it.
@@ -81,7 +92,7 @@ impl<'a> Lines<'a> {
     /// inlined.
     pub fn functions(&self, address: u64) -> Vec<At> {
         let mut found = Vec::new();
-        if *self.is_deep.get_or_init(|| is_unit_too_deep(self.context.dwarf())) {
+        if *self.is_deep.get_or_init(|| self.is_unit_too_deep()) {
             return found;
         }
         if let Ok(mut frames) = self.context.find_frames(address) {
@@ -99,6 +110,21 @@ impl<'a> Lines<'a> {
     /// Whether the debug information of the unit at an address is in a file of its own (`-gsplit-dwarf`).
     pub(crate) fn is_split(&self, address: u64) -> bool {
         self.context.find_dwarf_unit(address).map_or(false, |unit| unit.dwo_id.is_some())
+    }
+
+    /// Whether the entries of a unit are too deep.
+    fn is_unit_too_deep(&self) -> bool {
+        let dwarf = self.context.dwarf();
+        let mut units = dwarf.units();
+        let mut headers = std::iter::from_fn(|| units.next().ok().flatten());
+        let is_deep = headers.any(|header| {
+            if let (Some(info), UnitSectionOffset::DebugInfoOffset(begin)) = (&self.info, header.offset()) {
+                // What was read before is hardly needed again.
+                info.give_back(begin.0.saturating_sub(LEFT)..begin.0);
+            }
+            dwarf.unit(header).and_then(|unit| is_deep_unit(&unit)).unwrap_or(false)
+        });
+        is_deep
     }
 
     /// The line of a location: that of an address, or that of the call of an inlined function, which has its entry
@@ -119,13 +145,6 @@ impl<'a> Lines<'a> {
         };
         SourceLine::of(addr2line::Location { file: Some(&file), ..location })
     }
-}
-
-/// Whether the entries of a unit are too deep.
-fn is_unit_too_deep(dwarf: &Dwarf<Slice<'_>>) -> bool {
-    let mut units = dwarf.units();
-    let mut headers = std::iter::from_fn(|| units.next().ok().flatten());
-    headers.any(|header| dwarf.unit(header).and_then(|unit| is_deep_unit(&unit)).unwrap_or(false))
 }
 
 fn is_deep_unit(unit: &Unit<Slice<'_>>) -> gimli::Result<bool> {

@@ -4,9 +4,11 @@
 //! It uses no other part.
 
 pub mod code_id;
+pub mod compressed;
 pub mod constants;
 pub mod covered;
 pub mod debug_files;
+mod decoded;
 pub mod demangle;
 pub mod escaped;
 pub mod fetch;
@@ -16,6 +18,7 @@ pub mod functions;
 pub mod image;
 pub mod layout;
 pub mod mapped;
+mod nameless_file;
 pub mod other_file;
 pub mod plt;
 pub mod program;

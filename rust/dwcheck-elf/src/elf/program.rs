@@ -3,6 +3,9 @@
 
 mod by_segment;
 
+pub use crate::elf::compressed::DECOMPRESSED_LIMIT;
+
+use crate::elf::compressed::{NotDecompressed, SectionBytes, Stored};
 use crate::elf::constants::{self, Constants};
 use crate::elf::format::{Format, Name};
 use crate::elf::functions::Functions;
@@ -11,9 +14,8 @@ use crate::elf::layout::{is_loaded_section, Layout};
 use crate::elf::other_file::OtherFile;
 use crate::elf::relocate::{self, RelocationError};
 use dwcheck_types::target::{AddressSize, Order, Target};
-use flate2::{Decompress, FlushDecompress};
 use object::elf;
-use object::read::{CompressionFormat, Object, ObjectSection, ObjectSegment, ObjectSymbol};
+use object::read::{Object, ObjectSection, ObjectSegment, ObjectSymbol};
 use object::{SectionFlags, SegmentFlags};
 use std::borrow::Cow;
 use std::fmt;
@@ -22,22 +24,11 @@ use std::ops::{Range, RangeInclusive};
 use xz2::read::XzDecoder;
 use xz2::stream::Stream;
 
-/// A compressed section may have at most this many bytes when it is decompressed.
-pub const DECOMPRESSED_LIMIT: u64 = 1 << 30;
-
-/// Deflate makes at most this many bytes from one compressed byte.
-const DEFLATE_RATIO: u64 = 1032;
-
-/// The type of a section that is compressed by zstd.
-const ELFCOMPRESS_ZSTD: u64 = 2;
-
 /// The section with a compressed ELF file of symbols.
 const PACKED: &str = ".gnu_debugdata";
 
 /// What [`PACKED`] may have at most when it is decompressed, in bytes, and what the decoder may take.
 const PACKED_LIMIT: u64 = 128 << 20;
-
-const OTHER_SIZE: &str = "the section has another size when it is decompressed";
 
 /// What an ELF file is, by its `e_type`.
 #[derive(Clone, Copy, Debug, PartialEq, Eq)]
@@ -266,11 +257,28 @@ impl<'data> Program<'data> {
         name: &'static str,
         end: usize,
     ) -> Result<Option<Cow<'data, [u8]>>, ProgramError> {
-        let found = self.only(name)?.filter(|_| self.kind != Kind::Relocatable);
-        match found.and_then(|found| unzipped_before(&found, end)) {
+        match self.stored(name)?.and_then(|stored| stored.bytes_before(end)) {
             Some(bytes) => Ok(Some(Cow::Owned(bytes))),
             None => self.debug_section(name),
         }
+    }
+
+    /// The same, but a large section that is compressed is decompressed into a file, if there is room for one.
+    pub(crate) fn debug_section_in_file(
+        &self,
+        name: &'static str,
+    ) -> Result<Option<SectionBytes<'data>>, ProgramError> {
+        match self.stored(name)?.and_then(|stored| stored.in_file()) {
+            Some(bytes) => Ok(Some(SectionBytes::InFile(bytes))),
+            None => Ok(self.debug_section(name)?.map(SectionBytes::Held)),
+        }
+    }
+
+    /// The section with this name as it is in the file, if it needs no relocations.
+    fn stored(&self, name: &'static str) -> Result<Option<Stored<'data>>, ProgramError> {
+        let found = self.only(name)?.filter(|_| self.kind != Kind::Relocatable);
+        let stored = found.map(|found| Stored::of(&found, self.target)).transpose();
+        stored.map_err(|why| ProgramError::decompressing(name, why))
     }
 
     /// Whether the file has a section with this name that has bytes in the file, compressed or not.
@@ -385,8 +393,9 @@ impl<'data> Program<'data> {
             Some(found) => found,
             None => return Ok(None),
         };
-        let mut section =
-            Section { bytes: uncompressed_section(&found, name, self.target)?, address: 0, unresolved: Vec::new() };
+        let bytes = Stored::of(&found, self.target).and_then(|stored| stored.bytes());
+        let bytes = bytes.map_err(|why| ProgramError::decompressing(name, why))?;
+        let mut section = Section { bytes, address: 0, unresolved: Vec::new() };
         if is_loaded_section(found.flags()) {
             section.address = self.layout.address(found.index());
         }
@@ -400,74 +409,13 @@ impl<'data> Program<'data> {
     }
 }
 
-/// The bytes of a section. The size that a compressed section claims is checked before any memory
-/// is allocated for it.
-fn uncompressed_section<'data>(
-    section: &object::Section<'data, '_>,
-    name: &'static str,
-    target: Target,
-) -> Result<Cow<'data, [u8]>, ProgramError> {
-    let fail = |error: object::Error| ProgramError::Section(name, error.to_string());
-    if let Some((data, size)) = compressed_by_zstd(section, target) {
-        return zstd_bytes(data, size, name).map(Cow::Owned);
-    }
-    let data = section.compressed_data().map_err(fail)?;
-    if data.format == CompressionFormat::None {
-        return Ok(Cow::Borrowed(data.data));
-    }
-    let size = data.uncompressed_size;
-    let possible = (data.data.len() as u64).saturating_mul(DEFLATE_RATIO);
-    if size > DECOMPRESSED_LIMIT.min(possible) {
-        return Err(ProgramError::TooLarge(name, size));
-    }
-    let bytes = data.decompress().map_err(fail)?;
-    if bytes.len() as u64 != size {
-        return Err(ProgramError::Section(name, OTHER_SIZE.to_string()));
-    }
-    Ok(bytes)
-}
-
-/// The first `end` bytes of a section that is compressed by zlib. `None` if it isn't, or doesn't have as many.
-fn unzipped_before(section: &object::Section<'_, '_>, end: usize) -> Option<Vec<u8>> {
-    let data = section.compressed_data().ok().filter(|data| data.format == CompressionFormat::Zlib)?;
-    let possible = DECOMPRESSED_LIMIT.min((data.data.len() as u64).saturating_mul(DEFLATE_RATIO));
-    if end as u64 > data.uncompressed_size.min(possible) {
-        return None;
-    }
-    let mut bytes = Vec::with_capacity(end);
-    // There is no room for the rest, which counts as an error that isn't one.
-    let _ = Decompress::new(true).decompress_vec(data.data, &mut bytes, FlushDecompress::Finish);
-    bytes.truncate(end);
-    Some(bytes).filter(|bytes| bytes.len() == end)
-}
-
-/// For a section that is compressed by zstd, which `object` doesn't know: the compressed bytes, and
-/// the size of the others.
-fn compressed_by_zstd<'data>(section: &object::Section<'data, '_>, target: Target) -> Option<(&'data [u8], u64)> {
-    let flags = match section.flags() {
-        SectionFlags::Elf { sh_flags } => sh_flags,
-        _ => 0,
-    };
-    let data = section.data().ok().filter(|_| flags & u64::from(elf::SHF_COMPRESSED) != 0)?;
-    // The type in 4 bytes, in 64-bit files 4 unused bytes, the size and the alignment in a word each.
-    let (word, size, header) = match target.address_size {
-        AddressSize::Four => (4, 4, 12),
-        AddressSize::Eight => (8, 8, 24),
-    };
-    let is_zstd = target.number(data.get(..4)?) == ELFCOMPRESS_ZSTD;
-    let size = target.number(data.get(size..size + word)?);
-    data.get(header..).filter(|_| is_zstd).map(|bytes| (bytes, size))
-}
-
-fn zstd_bytes(data: &[u8], size: u64, name: &'static str) -> Result<Vec<u8>, ProgramError> {
-    if size > DECOMPRESSED_LIMIT {
-        return Err(ProgramError::TooLarge(name, size));
-    }
-    let bytes = dwcheck_zstd::decompress(data, size as usize);
-    let bytes = bytes.map_err(|error| ProgramError::Section(name, error.to_string()))?;
-    match bytes.len() as u64 == size {
-        true => Ok(bytes),
-        false => Err(ProgramError::Section(name, OTHER_SIZE.to_string())),
+impl ProgramError {
+    /// Why the section with this name can't be decompressed.
+    fn decompressing(name: &'static str, why: NotDecompressed) -> Self {
+        match why {
+            NotDecompressed::Damaged(error) => ProgramError::Section(name, error),
+            NotDecompressed::TooLarge(size) => ProgramError::TooLarge(name, size),
+        }
     }
 }
 

@@ -176,7 +176,7 @@ impl<'a> Names<'a> {
             return files.symbols();
         }
         let shared = files.shared(debug_files);
-        let lines = Lines::read(files.source().1, shared.as_ref(), debug_files.unpacked());
+        let lines = Lines::read(files.source().1, shared.as_ref(), debug_files);
         Names { debug: lines.map_or(Debug::None, Debug::Lines), ..files.symbols() }
     }
 
