@@ -11,7 +11,7 @@ rust="librust-object-dev librust-gimli-dev librust-addr2line-dev librust-flate2-
     librust-clap-dev librust-clap-complete-dev librust-rayon-dev librust-indicatif-dev librust-memchr-dev librust-memmap2-dev librust-nix-dev librust-libc-dev
     librust-serde-json-dev librust-typed-arena-dev librust-rustc-demangle-dev librust-cpp-demangle-dev
     librust-glob-dev librust-xz2-dev librust-smallvec-dev librust-rustc-hash-dev librust-once-cell-dev librust-cc-dev
-    librust-rusqlite-dev librust-sha2-dev
+    librust-rusqlite-dev librust-sha2-dev librust-tar-dev
     libzydis-dev libzstd-dev liblz4-dev gcc"
 cargo="cargo rustc"
 # The last two lines are assemblers of other machines, which tests of dwcheck-elf use.
