@@ -16,6 +16,7 @@ use object::elf;
 use object::read::{CompressionFormat, Object, ObjectSection, ObjectSegment, ObjectSymbol};
 use object::{SectionFlags, SegmentFlags};
 use std::borrow::Cow;
+use std::collections::HashSet;
 use std::fmt;
 use std::io::Read;
 use std::ops::{Range, RangeInclusive};
@@ -36,6 +37,9 @@ const PACKED: &str = ".gnu_debugdata";
 
 /// What [`PACKED`] may have at most when it is decompressed, in bytes, and what the decoder may take.
 const PACKED_LIMIT: u64 = 128 << 20;
+
+/// How many bytes of `.comment` are read.
+const COMMENT_LIMIT: usize = 1024;
 
 const OTHER_SIZE: &str = "the section has another size when it is decompressed";
 
@@ -62,6 +66,8 @@ pub struct Program<'data> {
     target: Target,
     machine: u16,
     kind: Kind,
+    /// The functions that its separate file of debug information names, if that is used for names.
+    separate: Functions<'data>,
 }
 
 /// The bytes of a section, decompressed and with its relocations applied.
@@ -133,7 +139,13 @@ impl<'data> Program<'data> {
             elf::ET_CORE => Kind::Core,
             other => Kind::Other(other),
         };
-        Ok(Program { data, file, layout, target, machine, kind })
+        Ok(Program { data, file, layout, target, machine, kind, separate: Functions::default() })
+    }
+
+    /// The same program, with the functions that its separate file of debug information names, too.
+    #[must_use]
+    pub fn with_names_of(self, separate: &Program<'data>) -> Self {
+        Program { separate: separate.own_functions(), ..self }
     }
 
     /// The byte order and the address size.
@@ -210,7 +222,10 @@ impl<'data> Program<'data> {
 
     /// The [`functions`](Self::functions), and why `.gnu_debugdata` can't be read.
     pub(crate) fn all_functions(&self) -> (Functions<'data>, Option<ProgramError>) {
-        let own = self.own_functions();
+        let mut own = self.own_functions();
+        if !self.separate.all().is_empty() {
+            own = own.with(self.separate.clone());
+        }
         match self.packed_functions() {
             Ok(Some(packed)) => (own.with(packed), None),
             Ok(None) => (own, None),
@@ -242,6 +257,17 @@ impl<'data> Program<'data> {
     /// The file's build id, which its file of debug information has too.
     pub fn build_id(&self) -> Option<&'data [u8]> {
         self.file.build_id().ok().flatten()
+    }
+
+    /// The compilers that the file names in `.comment`, each once. `None` if it names none.
+    pub fn compiler(&self) -> Option<String> {
+        let comment = self.section(".comment").ok().flatten()?;
+        let text = String::from_utf8_lossy(comment.bytes.get(..COMMENT_LIMIT).unwrap_or(&comment.bytes)).into_owned();
+        let mut names: Vec<&str> = text.split('\0').filter(|name| !name.is_empty()).collect();
+        let mut seen = HashSet::new();
+        names.retain(|name| seen.insert(*name));
+        let all: String = names.join("; ").chars().filter(|c| !c.is_control()).collect();
+        Some(all).filter(|all| !all.is_empty())
     }
 
     /// The name and the checksum (CRC-32) of the file of debug information that `.gnu_debuglink`
