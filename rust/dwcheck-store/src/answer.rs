@@ -22,6 +22,7 @@ pub struct Question {
     command: String,
     options: String,
     version: String,
+    inputs: String,
 }
 
 /// What a command found in a content. Nothing in it depends on the file's name.
@@ -66,17 +67,21 @@ pub struct Finding {
 }
 
 impl Question {
-    /// A command of a version of the program, with the options that change what is found. The order of the options
-    /// doesn't matter.
-    pub fn new(command: &str, version: &str, options: impl IntoIterator<Item = String>) -> Self {
-        let mut options: Vec<_> = options.into_iter().collect();
-        options.sort();
-        Question { command: command.to_string(), options: options.join(" "), version: version.to_string() }
+    /// A command of a version of the program, with the options that change what is found, and with what other files
+    /// decide it. The order of the options and of these doesn't matter.
+    pub fn new(
+        command: &str,
+        version: &str,
+        options: impl IntoIterator<Item = String>,
+        inputs: impl IntoIterator<Item = String>,
+    ) -> Self {
+        let (command, version) = (command.to_string(), version.to_string());
+        Question { command, options: in_order(options), version, inputs: in_order(inputs) }
     }
 
-    /// The same with these options as one text.
-    pub(crate) fn with_text(command: String, options: String, version: String) -> Self {
-        Question { command, options, version }
+    /// The same with these options and inputs, each as one text.
+    pub(crate) fn with_texts(command: String, options: String, version: String, inputs: String) -> Self {
+        Question { command, options, version, inputs }
     }
 
     /// The name of the command.
@@ -93,6 +98,18 @@ impl Question {
     pub fn version(&self) -> &str {
         &self.version
     }
+
+    /// The other files that decide what is found, in their order.
+    pub fn inputs(&self) -> &str {
+        &self.inputs
+    }
+}
+
+/// Words in their order, as one text.
+fn in_order(words: impl IntoIterator<Item = String>) -> String {
+    let mut words: Vec<_> = words.into_iter().collect();
+    words.sort();
+    words.join(" ")
 }
 
 impl Outcome {

@@ -12,7 +12,8 @@ use std::cmp::Ordering;
 const ANSWER: &str = "
     SELECT answer.id, answer.outcome, answer.details FROM answer
     JOIN content ON content.id = answer.content JOIN question ON question.id = answer.question
-    WHERE content.sha256 = ?1 AND question.command = ?2 AND question.options = ?3 AND answer.version = ?4";
+    WHERE content.sha256 = ?1 AND question.command = ?2 AND question.options = ?3 AND answer.version = ?4
+        AND answer.inputs = ?5";
 
 /// Adds a content, or what wasn't known of it.
 const ADD_CONTENT: &str = "
@@ -21,7 +22,7 @@ const ADD_CONTENT: &str = "
         compiler = coalesce(compiler, excluded.compiler)";
 
 const ADD_ANSWER: &str =
-    "INSERT INTO answer (content, question, version, outcome, details) VALUES (?1, ?2, ?3, ?4, ?5)";
+    "INSERT INTO answer (content, question, version, inputs, outcome, details) VALUES (?1, ?2, ?3, ?4, ?5, ?6)";
 
 const ADD_FINDING: &str = "
     INSERT INTO finding (answer, number, kind, severity, function, address, text, details)
@@ -36,7 +37,8 @@ impl Store {
     pub fn answer(&self, digest: Digest, question: &Question) -> Result<Option<Answer>, StoreError> {
         self.read(|connection| {
             let mut statement = connection.prepare_cached(ANSWER)?;
-            let words = params![digest.0, question.command(), question.options(), question.version()];
+            let (version, inputs) = (question.version(), question.inputs());
+            let words = params![digest.0, question.command(), question.options(), version, inputs];
             let head = |row: &Row<'_>| Ok((row.get(0)?, row.get::<_, String>(1)?, row.get(2)?));
             match statement.query_row(words, head).optional()? {
                 Some((id, outcome, details)) => Ok(Some(read_answer(connection, id, &outcome, details)?)),
@@ -45,8 +47,8 @@ impl Store {
         })
     }
 
-    /// Keeps the answer to a question for a content. One of another version of the program is replaced, and if there is
-    /// one of this version, nothing changes.
+    /// Keeps the answer to a question for a content. One of another version of the program, or with other inputs, is
+    /// replaced, and if there is one of this version with these inputs, nothing changes.
     ///
     /// # Errors
     ///
@@ -54,7 +56,7 @@ impl Store {
     pub fn keep(&mut self, content: &Content, question: &Question, answer: &Answer) -> Result<(), StoreError> {
         self.write(|connection| {
             let id = add_content(connection, content)?;
-            add_answer(connection, id, question, answer, |_| true)
+            add_answer(connection, id, question, answer, |_, _| true)
         })
     }
 }
@@ -67,28 +69,31 @@ pub(crate) fn add_content(connection: &Connection, content: &Content) -> Result<
     Ok(statement.query_row([&digest.0[..]], |row| row.get(0))?)
 }
 
-/// Adds an answer for a content. One of another version is replaced if `replaces` says so of that version.
+/// Adds an answer for a content. One of another version or with other inputs is replaced if `replaces` says so of these.
 pub(crate) fn add_answer(
     connection: &Connection,
     content: i64,
     question: &Question,
     answer: &Answer,
-    replaces: impl FnOnce(&str) -> bool,
+    replaces: impl FnOnce(&str, &str) -> bool,
 ) -> Result<(), Problem> {
     let (command, options) = (question.command(), question.options());
     let mut add = connection.prepare_cached("INSERT OR IGNORE INTO question (command, options) VALUES (?1, ?2)")?;
     add.execute([command, options])?;
     let mut find = connection.prepare_cached("SELECT id FROM question WHERE command = ?1 AND options = ?2")?;
     let question_id: i64 = find.query_row([command, options], |row| row.get(0))?;
-    let mut find = connection.prepare_cached("SELECT id, version FROM answer WHERE content = ?1 AND question = ?2")?;
-    let known: Option<(i64, String)> =
-        find.query_row([content, question_id], |row| Ok((row.get(0)?, row.get(1)?))).optional()?;
+    let known = "SELECT id, version, inputs FROM answer WHERE content = ?1 AND question = ?2";
+    let head = |row: &Row<'_>| Ok((row.get(0)?, row.get(1)?, row.get(2)?));
+    let known: Option<(i64, String, String)> =
+        connection.prepare_cached(known)?.query_row([content, question_id], head).optional()?;
+    let wanted = (question.version(), question.inputs());
     match known {
-        Some((_, version)) if version == question.version() || !replaces(&version) => return Ok(()),
-        Some((id, _)) => connection.prepare_cached("DELETE FROM answer WHERE id = ?1")?.execute([id])?,
+        Some((_, version, inputs)) if (&*version, &*inputs) == wanted || !replaces(&version, &inputs) => return Ok(()),
+        Some((id, ..)) => connection.prepare_cached("DELETE FROM answer WHERE id = ?1")?.execute([id])?,
         None => 0,
     };
-    let words = params![content, question_id, question.version(), answer.outcome.name(), text_of(&answer.details)];
+    let (version, inputs) = wanted;
+    let words = params![content, question_id, version, inputs, answer.outcome.name(), text_of(&answer.details)];
     let id = connection.prepare_cached(ADD_ANSWER)?.insert(words)?;
     add_findings(connection, id, &answer.findings)?;
     let mut add = connection.prepare_cached("INSERT INTO total (answer, name, count) VALUES (?1, ?2, ?3)")?;

@@ -21,7 +21,8 @@ pub enum Format {
 
 /// All answers for contents that are in files.
 const ANSWERS: &str = "
-    SELECT content.id, sha256, bytes, build_id, compiler, command, options, version, answer.id, outcome FROM answer
+    SELECT content.id, sha256, bytes, build_id, compiler, command, options, version, answer.id, outcome, inputs
+    FROM answer
     JOIN content ON content.id = answer.content JOIN question ON question.id = answer.question
     WHERE EXISTS (SELECT 1 FROM place WHERE place.content = content.id) ORDER BY sha256, command, options";
 
@@ -31,7 +32,7 @@ const PLACES: &str = "
     LEFT JOIN package ON package.id = file.package WHERE place.content = ?1 ORDER BY path, member";
 
 /// The columns of the table, and what they have.
-const COLUMNS: [(&str, &str); 17] = [
+const COLUMNS: [(&str, &str); 18] = [
     ("package", "package.name"),
     ("package_version", "package.version"),
     ("architecture", "package.architecture"),
@@ -44,6 +45,7 @@ const COLUMNS: [(&str, &str); 17] = [
     ("command", "question.command"),
     ("options", "question.options"),
     ("version", "answer.version"),
+    ("inputs", "answer.inputs"),
     ("kind", "finding.kind"),
     ("severity", "finding.severity"),
     ("function", "finding.function"),
@@ -99,6 +101,7 @@ fn answer_object(row: &Row<'_>, answer: &Answer, places: Vec<Value>) -> rusqlite
         "command": text(5)?,
         "options": text(6)?,
         "version": text(7)?,
+        "inputs": text(10)?,
         "outcome": answer.outcome.name(),
         "places": places,
         "totals": totals,

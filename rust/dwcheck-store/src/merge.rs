@@ -11,7 +11,8 @@ use std::cmp::Ordering;
 
 /// All answers, with their contents and questions.
 const ANSWERS: &str = "
-    SELECT sha256, bytes, build_id, compiler, command, options, version, answer.id, outcome, details FROM answer
+    SELECT sha256, bytes, build_id, compiler, command, options, version, inputs, answer.id, outcome, details
+    FROM answer
     JOIN content ON content.id = answer.content JOIN question ON question.id = answer.question
     ORDER BY sha256, command, options";
 
@@ -21,7 +22,8 @@ const FILES: &str = "
     LEFT JOIN package ON package.id = file.package ORDER BY path";
 
 impl Store {
-    /// Adds all that another store has. Of two answers to one question, that of the later version stays; of a file that
+    /// Adds all that another store has. Of two answers to one question, that of the later version stays, or with the later text
+    /// of inputs; of a file that
     /// both have, the contents of the other store. What the file systems of other machines say of files isn't taken.
     ///
     /// # Errors
@@ -62,7 +64,10 @@ fn merge_answers(transaction: &Transaction<'_>, other: &Store) -> Result<(), Mer
         let (content, question) = read_head(row).map_err(of_other)?;
         let answer = read_body(other.connection(), row).map_err(of_other)?;
         let id = add_content(transaction, &content).map_err(of_this)?;
-        let is_later = |version: &str| version_order(question.version(), version) == Ordering::Greater;
+        let is_later = |version: &str, inputs: &str| {
+            let order = version_order(question.version(), version);
+            order.then_with(|| question.inputs().cmp(inputs)) == Ordering::Greater
+        };
         add_answer(transaction, id, &question, &answer, is_later).map_err(of_this)?;
     }
     Ok(())
@@ -71,12 +76,12 @@ fn merge_answers(transaction: &Transaction<'_>, other: &Store) -> Result<(), Mer
 fn read_head(row: &Row<'_>) -> rusqlite::Result<(Content, Question)> {
     let bytes = row.get::<_, i64>(1)? as u64;
     let content = Content { digest: Digest(row.get(0)?), bytes, build_id: row.get(2)?, compiler: row.get(3)? };
-    Ok((content, Question::with_text(row.get(4)?, row.get(5)?, row.get(6)?)))
+    Ok((content, Question::with_texts(row.get(4)?, row.get(5)?, row.get(6)?, row.get(7)?)))
 }
 
 fn read_body(connection: &Connection, row: &Row<'_>) -> Result<crate::Answer, Problem> {
-    let outcome: String = row.get(8)?;
-    read_answer(connection, row.get(7)?, &outcome, row.get(9)?)
+    let outcome: String = row.get(9)?;
+    read_answer(connection, row.get(8)?, &outcome, row.get(10)?)
 }
 
 fn merge_files(transaction: &Transaction<'_>, other: &Store) -> Result<(), MergeProblem> {

@@ -60,6 +60,7 @@ CREATE TABLE answer (
     content INTEGER NOT NULL REFERENCES content (id),
     question INTEGER NOT NULL REFERENCES question (id),
     version TEXT NOT NULL,
+    inputs TEXT NOT NULL,
     outcome TEXT NOT NULL,
     details TEXT,
     UNIQUE (content, question)

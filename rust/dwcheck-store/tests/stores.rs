@@ -49,7 +49,7 @@ fn content(bytes: &[u8]) -> Content {
 }
 
 fn question(version: &str) -> Question {
-    Question::new("lint", version, ["private".to_string(), "explain".to_string()])
+    Question::new("lint", version, ["private".to_string(), "explain".to_string()], [])
 }
 
 fn finding(function: &str, address: &str) -> Finding {
@@ -97,9 +97,13 @@ fn an_answer_stands_for_its_content_its_question_and_its_version() {
     store.keep(&content(b"a"), &question("2.0.0"), &kept).unwrap();
     assert_eq!(store.answer(digest, &question("2.0.0")).unwrap(), Some(kept.clone()));
     assert_eq!(store.answer(digest, &question("2.0.1")).unwrap(), None);
-    assert_eq!(store.answer(digest, &Question::new("lint", "2.0.0", [])).unwrap(), None);
+    assert_eq!(store.answer(digest, &Question::new("lint", "2.0.0", [], [])).unwrap(), None);
     assert_eq!(store.answer(Digest::of(b"b"), &question("2.0.0")).unwrap(), None);
-    store.keep(&content(b"a"), &question("2.0.0"), &kept).unwrap();
+    let options = ["explain".to_string(), "private".to_string()];
+    let named = Question::new("lint", "2.0.0", options, ["names=1".to_string()]);
+    assert_eq!(store.answer(digest, &named).unwrap(), None);
+    store.keep(&content(b"a"), &named, &kept).unwrap();
+    assert_eq!(store.answer(digest, &question("2.0.0")).unwrap(), None);
     store.keep(&content(b"a"), &question("2.0.1"), &answer(Vec::new())).unwrap();
     let counts = "SELECT (SELECT count(*) FROM answer), (SELECT count(*) FROM finding), (SELECT count(*) FROM total)";
     assert_eq!(sqlite3(&folder.file("s"), counts), "1|0|2\n");
