@@ -2,6 +2,7 @@
 //! segments, build id and debug links.
 
 mod by_segment;
+mod compiler;
 
 use crate::elf::constants::{self, Constants};
 use crate::elf::format::{Format, Name};
@@ -16,7 +17,6 @@ use object::elf;
 use object::read::{CompressionFormat, Object, ObjectSection, ObjectSegment, ObjectSymbol};
 use object::{SectionFlags, SegmentFlags};
 use std::borrow::Cow;
-use std::collections::HashSet;
 use std::fmt;
 use std::io::Read;
 use std::ops::{Range, RangeInclusive};
@@ -37,9 +37,6 @@ const PACKED: &str = ".gnu_debugdata";
 
 /// What [`PACKED`] may have at most when it is decompressed, in bytes, and what the decoder may take.
 const PACKED_LIMIT: u64 = 128 << 20;
-
-/// How many bytes of `.comment` are read.
-const COMMENT_LIMIT: usize = 1024;
 
 const OTHER_SIZE: &str = "the section has another size when it is decompressed";
 
@@ -257,17 +254,6 @@ impl<'data> Program<'data> {
     /// The file's build id, which its file of debug information has too.
     pub fn build_id(&self) -> Option<&'data [u8]> {
         self.file.build_id().ok().flatten()
-    }
-
-    /// The compilers that the file names in `.comment`, each once. `None` if it names none.
-    pub fn compiler(&self) -> Option<String> {
-        let comment = self.section(".comment").ok().flatten()?;
-        let text = String::from_utf8_lossy(comment.bytes.get(..COMMENT_LIMIT).unwrap_or(&comment.bytes)).into_owned();
-        let mut names: Vec<&str> = text.split('\0').filter(|name| !name.is_empty()).collect();
-        let mut seen = HashSet::new();
-        names.retain(|name| seen.insert(*name));
-        let all: String = names.join("; ").chars().filter(|c| !c.is_control()).collect();
-        Some(all).filter(|all| !all.is_empty())
     }
 
     /// The name and the checksum (CRC-32) of the file of debug information that `.gnu_debuglink`
