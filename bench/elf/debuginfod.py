@@ -8,8 +8,8 @@ A program that crashes is compiled, stripped, and taken away; Debian's debuginfo
 fetched while no server runs, and dwcheck-elf what debuginfod-find has fetched. Other servers are silent, slow, down, or
 send another file, endless bytes or redirects to nowhere: `stack` has to end within one time-out for each, say so, and
 use nothing of what came. `lint` has to name the functions of stripped libraries by what a server sends, and to ask for
-nothing if it finds nothing. With --no-debuginfod, and without DEBUGINFOD_URLS, no server is asked. This needs gcc, gdb,
-elfutils, debuginfod and binutils.
+nothing if it finds nothing; with a store, too. With --no-debuginfod, and without DEBUGINFOD_URLS, no server is asked.
+This needs gcc, gdb, elfutils, debuginfod and binutils.
 """
 import http.server
 import os
@@ -212,8 +212,12 @@ def judge_lint(bench, good):
     for urls, words in ((server.url, ["--no-debuginfod"]), (None, []), ("", [])):
         out, why, _ = bench.lint(urls, *words, *files)
         bench.check("without a server findings have addresses", out.count("push without row at a function without a name (0x") == len(files) and not why, out, why)
-    bench.lint(server.url, "right.so")
+    for words in ([], ["--store", "right.store"], ["--store", "right.store"]):
+        bench.lint(server.url, *words, "right.so")
     bench.check("nothing is asked for a library without findings", not server.asked, server.asked)
+    for urls, has_names in ((good, True), (good, True), (server.url, False), (good, True), (None, False)):
+        out, why, _ = bench.lint(urls, "--store", "wrong.store", *files)
+        bench.check(f"with a store they {'have names' if has_names else 'have no names'}", is_named(out) == has_names and out.count("push without row") == len(files) and not why, out, why)
     server = Server(silent)
     out, why, took = bench.lint(server.url, "--jobs", "2", *files)
     bench.check(f"a silent server takes {took:.1f} s and is asked {len(server.asked)} times, and findings are shown",

@@ -1,6 +1,5 @@
 //! Sections that are compressed, by zlib or by zstd: their bytes in memory or in a file.
 
-use crate::elf::decoded::{damaged, Decoded};
 use crate::elf::mapped::Bytes;
 use crate::elf::nameless_file::{folder, nameless_file};
 use dwcheck_types::target::{AddressSize, Target};
@@ -111,7 +110,7 @@ impl<'data> Stored<'data> {
         let reader: Box<dyn Read + '_> = match self {
             Stored::Plain(bytes) => Box::new(*bytes),
             Stored::Zlib(found) => Box::new(ZlibDecoder::new(found.data)),
-            Stored::Zstd(data, _) => Box::new(Decoded::of(*data, dwcheck_zstd::Decoder::new().map_err(damaged)?)),
+            Stored::Zstd(data, _) => Box::new(dwcheck_zstd::Reader::new(*data)?),
         };
         let count = io::copy(&mut reader.take(self.size() + 1), &mut file)?;
         if count != self.size() {

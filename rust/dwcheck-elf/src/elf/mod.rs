@@ -8,7 +8,6 @@ pub mod compressed;
 pub mod constants;
 pub mod covered;
 pub mod debug_files;
-mod decoded;
 pub mod demangle;
 pub mod escaped;
 pub mod fetch;

@@ -2,6 +2,7 @@
 //! segments, build id and debug links.
 
 mod by_segment;
+mod compiler;
 
 pub use crate::elf::compressed::DECOMPRESSED_LIMIT;
 
@@ -53,6 +54,8 @@ pub struct Program<'data> {
     target: Target,
     machine: u16,
     kind: Kind,
+    /// The functions that its separate file of debug information names, if that is used for names.
+    separate: Functions<'data>,
 }
 
 /// The bytes of a section, decompressed and with its relocations applied.
@@ -124,7 +127,13 @@ impl<'data> Program<'data> {
             elf::ET_CORE => Kind::Core,
             other => Kind::Other(other),
         };
-        Ok(Program { data, file, layout, target, machine, kind })
+        Ok(Program { data, file, layout, target, machine, kind, separate: Functions::default() })
+    }
+
+    /// The same program, with the functions that its separate file of debug information names, too.
+    #[must_use]
+    pub fn with_names_of(self, separate: &Program<'data>) -> Self {
+        Program { separate: separate.own_functions(), ..self }
     }
 
     /// The byte order and the address size.
@@ -201,7 +210,10 @@ impl<'data> Program<'data> {
 
     /// The [`functions`](Self::functions), and why `.gnu_debugdata` can't be read.
     pub(crate) fn all_functions(&self) -> (Functions<'data>, Option<ProgramError>) {
-        let own = self.own_functions();
+        let mut own = self.own_functions();
+        if !self.separate.all().is_empty() {
+            own = own.with(self.separate.clone());
+        }
         match self.packed_functions() {
             Ok(Some(packed)) => (own.with(packed), None),
             Ok(None) => (own, None),

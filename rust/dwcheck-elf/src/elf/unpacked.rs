@@ -3,7 +3,6 @@
 //! They are decompressed as a stream into a file without a name, which is then mapped as others are. Blocks of zeros, of
 //! which most core files have many, are holes and take no room.
 
-use crate::elf::decoded::{damaged, Decoded};
 use crate::elf::mapped::Bytes;
 use crate::elf::nameless_file::{folder, nameless_file};
 use flate2::read::MultiGzDecoder;
@@ -81,8 +80,8 @@ fn unpack(packed: File, format: Format) -> io::Result<Bytes> {
 
 fn decompressor(packed: File, format: Format) -> io::Result<Box<dyn Read>> {
     Ok(match format {
-        Format::Zstd => Box::new(Decoded::of(packed, dwcheck_zstd::Decoder::new().map_err(damaged)?)),
-        Format::Lz4 => Box::new(Decoded::of(packed, dwcheck_lz4::Decoder::new().map_err(damaged)?)),
+        Format::Zstd => Box::new(dwcheck_zstd::Reader::new(packed)?),
+        Format::Lz4 => Box::new(Lz4Reader::of(packed, dwcheck_lz4::Decoder::new().map_err(damaged)?)),
         Format::Xz => {
             let stream = Stream::new_stream_decoder(XZ_MEMORY, CONCATENATED).map_err(damaged)?;
             Box::new(XzDecoder::new_stream(packed, stream))
@@ -134,6 +133,46 @@ impl Sparse {
         }
         Ok(())
     }
+}
+
+/// What a file compressed by lz4 holds.
+struct Lz4Reader {
+    packed: File,
+    decoder: dwcheck_lz4::Decoder,
+    buffer: Vec<u8>,
+    /// The bytes of the buffer that the decoder hasn't taken yet: from where, and up to where.
+    rest: (usize, usize),
+}
+
+impl Lz4Reader {
+    fn of(packed: File, decoder: dwcheck_lz4::Decoder) -> Self {
+        Lz4Reader { packed, decoder, buffer: vec![0; PART], rest: (0, 0) }
+    }
+}
+
+impl Read for Lz4Reader {
+    fn read(&mut self, output: &mut [u8]) -> io::Result<usize> {
+        loop {
+            let (begin, end) = self.rest;
+            let input = self.buffer.get(begin..end).unwrap_or(&[]);
+            let (taken, given, ran) = self.decoder.run(input, output);
+            ran.map_err(damaged)?;
+            self.rest.0 = begin + taken;
+            if given > 0 {
+                return Ok(given);
+            }
+            if taken == 0 {
+                self.rest = (0, self.packed.read(&mut self.buffer)?);
+                if self.rest.1 == 0 {
+                    return Ok(0);
+                }
+            }
+        }
+    }
+}
+
+fn damaged(error: impl std::error::Error + Send + Sync + 'static) -> io::Error {
+    io::Error::new(ErrorKind::InvalidData, error)
 }
 
 fn not_unpacked(error: io::Error) -> io::Error {
