@@ -483,7 +483,11 @@ fn findings_are_named_by_the_separate_file_of_debug_information() {
     assert!(sarif.contains("a.s\"") && sarif.contains("\"startLine\": 5"), "{}", sarif);
     folder.run("printf x >> a.debug");
     let other = dwcheck_elf(&folder, "lint a.so");
-    assert!(!named(&other.out) && other.out.contains("push without row at a function without a name (0x"), "{}", other.out);
+    assert!(
+        !named(&other.out) && other.out.contains("push without row at a function without a name (0x"),
+        "{}",
+        other.out
+    );
     assert!(other.error.contains("its checksum isn't the one in .gnu_debuglink"), "{}", other.error);
 }
 
