@@ -9,7 +9,7 @@ mkdir -p "$DWCHECK_LIB_DIR"
 ar rcs "$DWCHECK_LIB_DIR/libdwcheck.a"
 . "$top/tools/each_test.sh"
 
-for crate in rust/dwcheck-sys rust/dwcheck-types rust/dwcheck rust/dwcheck-lint rust/dwcheck-minidump rust/dwcheck-symbols rust/dwcheck-debuginfod rust/dwcheck-zstd rust/dwcheck-lz4 rust/dwcheck-elf rust/dwcheck-profile rust/dwcheck-trace \
+for crate in rust/dwcheck-sys rust/dwcheck-types rust/dwcheck rust/dwcheck-lint rust/dwcheck-minidump rust/dwcheck-symbols rust/dwcheck-debuginfod rust/dwcheck-zstd rust/dwcheck-lz4 rust/dwcheck-store rust/dwcheck-package rust/dwcheck-elf rust/dwcheck-profile rust/dwcheck-trace \
     rust/dwcheck-command examples/rust; do
     cd "$top/$crate"
     test_of "rustfmt of $crate" cargo fmt --check

@@ -21,7 +21,7 @@ FILES, DEFINITIONS = TOP / "docs/FILES.md", TOP / "docs/DEFINITIONS.md"
 TYPES = {".rs": r"^(?:pub(?:\(.*?\))? )?(?:struct|enum|trait|union) (\w+)", ".antt": r"^pub (?:record|data) (\w+)"}
 TYPES[".rt"] = TYPES[".rs"]
 # The crates in Rust, the lowest first, each with its parts. What isn't below one of the parts comes before them.
-RUST = {"dwcheck-types": (), "dwcheck-sys": (), "dwcheck": (), "dwcheck-zstd": (), "dwcheck-lz4": (), "dwcheck-minidump": (), "dwcheck-symbols": (), "dwcheck-debuginfod": (),
+RUST = {"dwcheck-types": (), "dwcheck-sys": (), "dwcheck": (), "dwcheck-zstd": (), "dwcheck-lz4": (), "dwcheck-minidump": (), "dwcheck-symbols": (), "dwcheck-debuginfod": (), "dwcheck-store": (), "dwcheck-package": (),
         "dwcheck-lint": (),
         "dwcheck-elf": ("src/elf", "src/cfi", "src/debug", "src/check", "src/process"),
         "dwcheck-profile": (), "dwcheck-trace": (), "dwcheck-command": ()}

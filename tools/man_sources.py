@@ -126,7 +126,15 @@ def derived_commands(text):
             for choice in types.get(member.type, []):
                 yield f"`--{member.kebab} {choice.kebab}`", f"{choice.doc}."
 
-    return [Command(it.kebab, it.doc, rows=list(rows(it.type))) for it in types["Command"]]
+    def commands(enumeration, words=""):
+        for it in types[enumeration]:
+            below = [member.type for member in flat(it.type) if member.has("subcommand")]
+            if below:
+                yield from commands(below[0], f"{words}{it.kebab} ")
+            else:
+                yield Command(words + it.kebab, it.doc, rows=list(rows(it.type)))
+
+    return list(commands("Command"))
 
 
 # The options that the fields `has_..` of an outline stand for.

@@ -11,10 +11,11 @@ rust="librust-object-dev librust-gimli-dev librust-addr2line-dev librust-flate2-
     librust-clap-dev librust-clap-complete-dev librust-rayon-dev librust-indicatif-dev librust-memchr-dev librust-memmap2-dev librust-nix-dev librust-libc-dev
     librust-serde-json-dev librust-typed-arena-dev librust-rustc-demangle-dev librust-cpp-demangle-dev
     librust-glob-dev librust-xz2-dev librust-smallvec-dev librust-rustc-hash-dev librust-once-cell-dev librust-cc-dev
+    librust-rusqlite-dev librust-sha2-dev librust-tar-dev
     libzydis-dev libzstd-dev liblz4-dev gcc"
 cargo="cargo rustc"
 # The last two lines are assemblers of other machines, which tests of dwcheck-elf use.
-test="gcc g++ libc6-dev make binutils pkg-config python3 python3-pyelftools rust-clippy rustfmt valgrind libc6-dbg gdb elfutils xz-utils zstd lz4
+test="gcc g++ libc6-dev make binutils pkg-config python3 python3-pyelftools rust-clippy rustfmt valgrind libc6-dbg gdb elfutils xz-utils zstd lz4 sqlite3 parallel slurmctld slurmd slurm-client
     libunwind-dev clang clang-16 lld llvm golang-go gdb-multiarch qemu-user linux-perf libc6-dev-i386 lib32gcc-12-dev
     gcc-aarch64-linux-gnu libc6-dev-arm64-cross gcc-arm-linux-gnueabihf libc6-dev-armhf-cross
     $(printf 'binutils-%s-linux-gnu ' i686 alpha hppa mips powerpc powerpc64 powerpc64le riscv64 s390x sparc64)

@@ -36,7 +36,7 @@ PROVED = LOGS / "proved"
 # Without debug information the tests are compiled in less time.
 RUST = {"DWCHECK_LIB_DIR": str(BUILD), "CARGO_TARGET_DIR": str(BUILD / "cargo-test"), "CARGO_PROFILE_DEV_DEBUG": "0"}
 # The crates that the stage `elf` tests. It builds no examples, which the stage `lint` checks.
-ELF = "--no-fail-fast -p dwcheck-minidump -p dwcheck-symbols -p dwcheck-debuginfod -p dwcheck-zstd -p dwcheck-lz4 -p dwcheck-elf -p dwcheck-profile -p dwcheck-trace -p dwcheck-command"
+ELF = "--no-fail-fast -p dwcheck-minidump -p dwcheck-symbols -p dwcheck-debuginfod -p dwcheck-zstd -p dwcheck-lz4 -p dwcheck-store -p dwcheck-package -p dwcheck-elf -p dwcheck-profile -p dwcheck-trace -p dwcheck-command"
 # How many seconds a stage may be silent before a line says that it goes on.
 SILENCE = 60
 

@@ -97,7 +97,8 @@ def made(folder):
         program = file.read()
     recordings = {}
     for name in sorted(os.listdir(RECORDINGS)):
-        if name.endswith(".perf"):
+        # A recording that is a folder isn't changed.
+        if name.endswith(".perf") and os.path.isfile(os.path.join(RECORDINGS, name)):
             with open(os.path.join(RECORDINGS, name), "rb") as file:
                 recordings[name] = file.read()
     minidumps = {}

@@ -7,8 +7,9 @@ A program that crashes is compiled, stripped, and taken away; Debian's debuginfo
 `stack` has to print the frames that it prints with the program. Then debuginfod-find has to find what dwcheck-elf has
 fetched while no server runs, and dwcheck-elf what debuginfod-find has fetched. Other servers are silent, slow, down, or
 send another file, endless bytes or redirects to nowhere: `stack` has to end within one time-out for each, say so, and
-use nothing of what came. With --no-debuginfod, and without DEBUGINFOD_URLS, no server is asked. This needs gcc, gdb,
-elfutils, debuginfod and binutils.
+use nothing of what came. `lint` has to name the functions of stripped libraries by what a server sends, and to ask for
+nothing if it finds nothing; with a store, too. With --no-debuginfod, and without DEBUGINFOD_URLS, no server is asked.
+This needs gcc, gdb, elfutils, debuginfod and binutils.
 """
 import http.server
 import os
@@ -29,6 +30,18 @@ static inline __attribute__((always_inline)) int inner(volatile int *p) { if (*p
 __attribute__((noinline)) int outer(int n) { volatile int kept = n; return inner(&kept) + 1; }
 int main(int argc, char **argv) { return outer(argc + 2) + 1; }
 """
+# A local function whose push has no row, and one that is right.
+WRONG = """.text
+.type wrong, @function
+wrong: .cfi_startproc
+ push %rax
+ mov %rdi, %rax
+ pop %rcx
+ ret
+ .cfi_endproc
+.size wrong, .-wrong
+"""
+RIGHT = WRONG.replace("wrong", "right").replace(" push %rax\n", "").replace(" pop %rcx\n", "")
 TIMEOUT = 3
 TOP = pathlib.Path(__file__).resolve().parent.parent.parent
 
@@ -120,6 +133,12 @@ class Bench:
                              env=self.environment(urls, cache or self.cache()), timeout=300)
         return ran.stdout, ran.stderr, time.time() - begin
 
+    def lint(self, urls, *words):
+        begin = time.time()
+        ran = subprocess.run([self.tool, "lint", *words], cwd=self.folder, capture_output=True, text=True,
+                             env=self.environment(urls, self.cache()), timeout=300)
+        return ran.stdout, ran.stderr, time.time() - begin
+
     def check(self, what, holds, *shown):
         print(f"{'ok' if holds else 'FAILED'} {what}", flush=True)
         if not holds:
@@ -135,6 +154,10 @@ def prepare(folder):
     run("gcc -O2 -g a.c -o program && objcopy --only-keep-debug program served/program.debug && strip program")
     run(f"echo 0x33 > /proc/self/coredump_filter; {TOP}/tools/make_core.sh ./program")
     run("gcc -O1 -g a.c -o other")
+    for name, text in (("wrong1", WRONG), ("wrong2", WRONG + " nop\n"), ("right", RIGHT)):
+        (folder / f"{name}.s").write_text(text)
+        run(f"gcc -g -nostdlib -shared -Wl,--build-id {name}.s -o {name}.so && objcopy --only-keep-debug {name}.so served/{name}.debug")
+        run(f"strip {name}.so")
 
 
 def start_debuginfod(folder):
@@ -176,6 +199,31 @@ def judge_bad(bench, folder, good):
     bench.check("another file isn't used", liar.asked and " outer" not in out and "build id" in why, out, why)
     out, why, took = bench.stack(f"{Server(missing).url} {good}")
     bench.check("what one server hasn't, another one has", " outer" in out, out, why)
+
+
+def judge_lint(bench, good):
+    files = ["wrong1.so", "wrong2.so"]
+    is_named = lambda out: out.count("push without row at wrong+0x1 (0x") == len(files)
+    out, why, _ = bench.lint(good, *files)
+    bench.check("findings are named by what a server sends", is_named(out) and not why, out, why)
+    out, why, _ = bench.lint(good, "--sarif", *files)
+    bench.check("they have its lines", is_named(out) and out.count('"startLine": 5') == len(files), out, why)
+    server = Server(missing)
+    for urls, words in ((server.url, ["--no-debuginfod"]), (None, []), ("", [])):
+        out, why, _ = bench.lint(urls, *words, *files)
+        bench.check("without a server findings have addresses", out.count("push without row at a function without a name (0x") == len(files) and not why, out, why)
+    for words in ([], ["--store", "right.store"], ["--store", "right.store"]):
+        bench.lint(server.url, *words, "right.so")
+    bench.check("nothing is asked for a library without findings", not server.asked, server.asked)
+    for urls, has_names in ((good, True), (good, True), (server.url, False), (good, True), (None, False)):
+        out, why, _ = bench.lint(urls, "--store", "wrong.store", *files)
+        bench.check(f"with a store they {'have names' if has_names else 'have no names'}", is_named(out) == has_names and out.count("push without row") == len(files) and not why, out, why)
+    server = Server(silent)
+    out, why, took = bench.lint(server.url, "--jobs", "2", *files)
+    bench.check(f"a silent server takes {took:.1f} s and is asked {len(server.asked)} times, and findings are shown",
+                took < TIMEOUT + 3 and out.count("push without row at a function without a name (0x") == len(files) and "not asked again" in why, out, why)
+    out, why, _ = bench.lint(Server(lies(bench.folder / "other")).url, *files)
+    bench.check("another file names nothing", out.count("push without row at a function without a name (0x") == len(files) and why.count("build id") == len(files), out, why)
 
 
 def judge_off(bench):
@@ -221,6 +269,7 @@ def main():
         try:
             judge_good(bench, folder, url, expected)
             judge_bad(bench, folder, url)
+            judge_lint(bench, url)
             judge_off(bench)
         finally:
             server.terminate()

@@ -2,7 +2,9 @@
 """Prints the tables of docs/SURVEY.md: how many sections, FDEs and rows the ELF files on a machine
 have, by architecture, and which sections dwcheck-elf refuses.
 
-    bench/elf/survey.py DWCHECK_ELF PATH ..        for example: build/dwcheck-elf /usr
+    bench/elf/survey.py DWCHECK_ELF PATH ..        for example: build/dwcheck-elf --store machine.store /usr
+
+What stands in a store isn't done again, so that the tables can be made once more of what was found.
 
 For docs/SURVEY.md, the libraries of other architectures were installed from Debian's packages:
     apt-get install $(apt-cache search --names-only '^(libstdc\\+\\+6|libgfortran5|libc6(\\.1)?)-.*-cross$' | cut -d' ' -f1)

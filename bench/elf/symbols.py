@@ -5,11 +5,12 @@
 
 Programs that crash are compiled with several sets of flags, and LLDB runs each and writes a minidump. LLDB prints the
 frames, first with the program in its place; then the program is put aside, and LLDB gets the symbol file alone. The
-frames have to be the same: their addresses, and the names and lines of those in the program. `dwcheck-elf stack
---symbols` has to find these, too. With --dump, the minidump of another program is judged as well, such as one for
+frames have to be the same: their addresses, and the names and lines of those in the program. Where they differ, gdb runs
+the program and decides: if it finds the frames by the symbol file, LLDB is wrong with the program. `dwcheck-elf stack
+--symbols` has to find these frames, too. With --dump, the minidump of another program is judged as well, such as one for
 aarch64; its program has to be where the dump names it. The last line counts the frames.
 
-This needs lldb-19, gcc and g++. LLDB reads no registers of i386 in rows (it takes $esp for another one).
+This needs lldb-19, gdb, gcc and g++. LLDB reads no registers of i386 in rows (it takes $esp for another one).
 """
 import argparse
 import os
@@ -93,15 +94,28 @@ def plain(place):
     return name, line[1] if line else ""
 
 
+def real(found):
+    """The addresses of frames, but for functions into which others are inlined: LLDB makes these up."""
+    outer = [place > 0 and "[inlined]" in found[place - 1][2] for place in range(len(found))]
+    return [address for (address, _, _), is_outer in zip(found, outer) if not is_outer]
+
+
 class Judge:
     def __init__(self, tool, folder):
         self.tool, self.folder = tool, folder
-        self.same = self.different = 0
+        self.same = self.wrong = self.different = 0
 
     def lldb(self, dump, more):
         search = "settings set target.exec-search-paths /lib/x86_64-linux-gnu /usr/lib/x86_64-linux-gnu"
         words = ["lldb-19", "-b", "-o", search, "-o", f"target create --core {dump}", *more, "-o", "bt all"]
         return frames(run(words, self.folder).stdout)
+
+    def by_gdb(self, program):
+        """The addresses of the frames that gdb shows when it runs the program until it crashes, but for functions into
+        which others are inlined."""
+        text = run(["gdb", "-q", "-batch", "-ex", "set startup-with-shell off", "-ex", "set backtrace past-main on",
+                    "-ex", "set backtrace past-entry on", "-ex", "run", "-ex", "bt", program], self.folder).stdout
+        return [int(address, 16) for address in re.findall(r"^#\d+ +0x([0-9a-f]+) in ", text, re.M)]
 
     def judge(self, name, dump, program):
         """Compares the frames with the program and without it."""
@@ -120,11 +134,11 @@ class Judge:
         found = [(address, *plain(place)) if module == os.path.basename(program) else address for address, module, place in after]
         addresses = [int(address, 16) for address in re.findall(r"^#\d+ 0x([0-9a-f]+)", ours, re.M)]
         is_same = len(own) > 1 and expected == found
-        # The frames around an inlined function have addresses that LLDB makes up.
-        outer = [before[place - 1][2].find("[inlined]") >= 0 if place else False for place in range(len(before))]
-        real = [frame for frame, is_outer in zip(before, outer) if not is_outer]
-        is_ours = all(address in addresses for address, module, _ in real if module == os.path.basename(program))
-        self.same += len(before) if is_same and is_ours else 0
+        is_lldb_wrong = not is_same and self.by_gdb(program) == real(after)
+        is_same = is_same or is_lldb_wrong
+        is_ours = all(address in addresses for address in real(after))
+        self.same += len(after) if is_same and is_ours else 0
+        self.wrong += 1 if is_lldb_wrong and is_ours else 0
         self.different += 0 if is_same and is_ours else 1
         if not is_same or not is_ours:
             print(f"{name}: LLDB {'agrees' if is_same else 'differs'}, dwcheck-elf {'agrees' if is_ours else 'differs'}")
@@ -132,7 +146,8 @@ class Judge:
             print("   without:", [(hex(a), *plain(p)) for a, m, p in after])
             print(ours, written.stderr)
         else:
-            print(f"{name}: {len(before)} frames, {len(own)} in the program", flush=True)
+            wrong = f"; they are gdb's, and LLDB finds {len(before)} others with the program" if is_lldb_wrong else ""
+            print(f"{name}: {len(after)} frames, {len(own)} in the program{wrong}", flush=True)
 
 
 def main():
@@ -154,7 +169,7 @@ def main():
                 judge.judge(f"{compiler} {flags}", f"{program}.dmp", program)
         for dump, program in arguments.dump:
             judge.judge(dump, os.path.abspath(dump), os.path.abspath(program))
-        print(f"frames {judge.same} stacks that differ {judge.different}")
+        print(f"frames {judge.same} stacks that gdb has and LLDB with the program hasn't {judge.wrong} stacks that differ {judge.different}")
     raise SystemExit(judge.different > 0)
 
 

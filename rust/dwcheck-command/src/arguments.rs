@@ -3,10 +3,15 @@
 mod crashes;
 mod files;
 mod runs;
+mod store;
 
 pub use crashes::{DebuginfodArguments, HandlerArguments, StackArguments, VarsArguments};
-pub use files::{CompareArguments, LintArguments, ReportArguments, SurveyArguments, SymbolsArguments};
+pub use files::{CompareArguments, LintArguments, ReportArguments, StoreArguments, SurveyArguments, SymbolsArguments};
 pub use runs::{Format, ProfileArguments, TraceArguments};
+pub use store::{
+    ExportFormat, StoreCommand, StoreDiffArguments, StoreExportArguments, StoreMergeArguments, StoreReportArguments,
+    StoresArguments,
+};
 
 use clap::{Args, Parser, Subcommand};
 use std::ffi::OsString;
@@ -72,6 +77,8 @@ pub enum Command {
     /// Write one page about the frame sections of programs, or about how those of two builds differ
     #[command(after_help = REPORT_EXAMPLES)]
     Report(ReportArguments),
+    /// Compare, join, show and write stores, in which --store keeps what is found
+    Store(StoresArguments),
     /// Print the completions of a shell, for its folder of completions
     Completions(CompletionsArguments),
 }

@@ -5,12 +5,16 @@ mod finding;
 
 use crate::arguments::CompareArguments;
 use crate::end::{shown_path, Done, Failure};
-use crate::findings::{collect, kind_of_name, warn_of_file, Collected, Findings};
+use crate::findings::{json_in_file, warn_of_file, Findings, Form, Shown};
+use crate::inquiry::{detail, detail_list, Inputs};
 use crate::known::Known;
-use compared::{compare_file, ComparedFile, Outcome, Shown};
+use crate::survey::note_unread_files;
+use compared::Asked;
 use dwcheck_elf::compare::{Kind, KINDS};
+use dwcheck_store::{Answer, Outcome};
 use serde_json::{json, Value};
 use std::io::{self, Write};
+use std::path::Path;
 
 /// What is counted over all files.
 #[derive(Default)]
@@ -28,19 +32,20 @@ struct Totals {
 
 /// Compares the tables of all files, and writes what differs, as text, as JSON or as SARIF.
 pub fn compare(arguments: &CompareArguments, out: &mut impl Write) -> Result<Done, Failure> {
-    let all_kinds = KINDS.iter().map(|(kind, name, _)| (*kind, *name));
-    let kinds = arguments.kind.iter().map(|name| kind_of_name(name, all_kinds.clone()));
-    let kinds = kinds.collect::<Result<Vec<_>, _>>()?;
-    let kind_names: Vec<_> = KINDS.iter().map(|(_, name, _)| *name).collect();
-    let known = Known::of_run(arguments.known.as_deref(), "compare", &kind_names)?;
-    let (json, sarif, has_separate) = (arguments.json, arguments.sarif, !arguments.no_separate);
-    let symbols = arguments.symbols.clone();
-    let shown = Shown { json, sarif, has_separate, symbols, kinds, kind_names };
-    let Collected { all, unread } = collect(&arguments.paths, arguments.jobs, |path| compare_file(path, &shown))?;
-    let mut totals = Totals { unread, ..Totals::default() };
-    for one in all {
-        totals.write_compared(out, one, arguments, &known)?;
-    }
+    let all_kinds: Vec<_> = KINDS.iter().map(|(_, name, _)| *name).collect();
+    let shown = Shown {
+        form: Form::of_options(arguments.json, arguments.sarif),
+        kinds: arguments.kind.clone(),
+        known: Known::of_run(arguments.known.as_deref(), "compare", &all_kinds)?,
+        all_kinds,
+    };
+    shown.check_kinds()?;
+    let asked =
+        Asked { has_separate: !arguments.no_separate, symbols: arguments.symbols.clone(), has_lines: arguments.sarif };
+    let inputs = Inputs::find(&arguments.paths, arguments.jobs, &arguments.kept)?;
+    note_unread_files(&inputs.files);
+    let mut totals = Totals { unread: inputs.files.unread.len(), ..Totals::default() };
+    inputs.each_answer(&asked, |path, answer| totals.write_compared(out, path, answer, arguments, &shown))?;
     totals.write_compare_totals(out, arguments)?;
     Ok(totals.findings.done(totals.unread))
 }
@@ -50,32 +55,36 @@ impl Totals {
     fn write_compared(
         &mut self,
         out: &mut impl Write,
-        one: ComparedFile,
+        path: &Path,
+        answer: &Answer,
         arguments: &CompareArguments,
-        known: &Known,
+        shown: &Shown,
     ) -> io::Result<()> {
-        let ComparedFile { path, outcome } = one;
-        let (findings, bytes, entries, unused, texts) = match outcome {
-            Outcome::Compared { findings, bytes, entries, unused, texts } => (findings, bytes, entries, unused, texts),
-            Outcome::Unread(error) => {
-                self.unread += 1;
-                warn_of_file(&path, &error);
-                return Ok(());
-            }
-        };
-        self.files += 1;
-        self.single += usize::from(texts.is_empty());
-        self.bytes = self.bytes.saturating_add(bytes);
-        self.entries += entries;
-        unused.iter().for_each(|reason| warn_of_file(&path, reason));
-        self.findings.write(out, findings, known.of(&path))?;
-        if arguments.sarif {
+        if answer.outcome == Outcome::Unread {
+            self.unread += 1;
+            warn_of_file(path, &detail(&answer.details, "error"));
             return Ok(());
         }
-        if texts.is_empty() && !arguments.json && arguments.paths.contains(&path) {
-            writeln!(out, "{}: there are no two tables to compare", shown_path(&path))?;
+        let total = |wanted: &str| answer.totals.iter().find(|(name, _)| name == wanted).map_or(0, |(_, count)| *count);
+        let pairs: Vec<_> = answer.details["pairs"].as_array().into_iter().flatten().collect();
+        self.files += 1;
+        self.single += usize::from(pairs.is_empty());
+        self.bytes = self.bytes.saturating_add(total("bytes"));
+        self.entries += total("entries") as usize;
+        detail_list(&answer.details, "notes").for_each(|reason| warn_of_file(path, &reason));
+        self.findings.write(out, path, &answer.findings, shown)?;
+        let is_named = arguments.paths.iter().any(|named| named == path);
+        match shown.form {
+            Form::Sarif => Ok(()),
+            Form::Json => pairs.iter().try_for_each(|pair| writeln!(out, "{}", json_in_file(&pair["json"], path))),
+            Form::Text if pairs.is_empty() && is_named => {
+                writeln!(out, "{}: there are no two tables to compare", shown_path(path))
+            }
+            Form::Text => {
+                let mut texts = pairs.iter().map(|pair| detail(pair, "text"));
+                texts.try_for_each(|text| writeln!(out, "{}: {}", shown_path(path), text))
+            }
         }
-        texts.iter().try_for_each(|text| writeln!(out, "{}", text))
     }
 
     fn named(&self) -> [(&'static str, u64); 9] {

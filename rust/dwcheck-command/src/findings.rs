@@ -1,33 +1,39 @@
-//! Findings of the commands that go through many files, `lint` and `compare`: how they are collected, counted and
-//! written.
+//! What the commands share that write findings, such as `lint`: the forms in which findings are written, those that
+//! are known, and counts.
 
 use crate::end::{shown_path, Done, Failure};
-use crate::known::{Key, Remaining};
-use crate::pool::thread_pool;
-use crate::survey::files::Files;
-use crate::survey::{note_unread_files, progress_bar};
+use crate::inquiry::detail;
+use crate::known::{Key, Known};
+use crate::sarif::result_in_file;
 use dwcheck_lint::finding::Severity;
-use rayon::prelude::*;
-use serde_json::Value;
+use dwcheck_lint::finding_text::Quoted;
+use dwcheck_store::Finding;
+use serde_json::{json, Value};
 use std::fmt;
 use std::io::{self, Write};
-use std::path::{Path, PathBuf};
+use std::path::Path;
 
-/// A finding, as it is written.
-pub struct WrittenFinding {
-    pub key: Key,
-    pub severity: Severity,
-    pub text: String,
-    /// The finding as a result of SARIF.
-    pub sarif: Option<Value>,
+/// A form in which findings are written.
+#[derive(Clone, Copy, Debug, PartialEq, Eq)]
+pub enum Form {
+    /// Lines of text.
+    Text,
+    /// Lines of JSON.
+    Json,
+    /// A document of SARIF.
+    Sarif,
 }
 
-/// What was found in the files of a run.
-pub struct Collected<T> {
-    /// The result for each file that could be opened, in the order of the files.
-    pub all: Vec<T>,
-    /// How many files and folders can't be read.
-    pub unread: usize,
+/// How findings are written, and which.
+pub struct Shown {
+    /// The form.
+    pub form: Form,
+    /// The names of the kinds that are shown. Empty if all are.
+    pub kinds: Vec<String>,
+    /// The names of all kinds.
+    pub all_kinds: Vec<&'static str>,
+    /// The findings that are left out.
+    pub known: Known,
 }
 
 /// How many findings there are, and those that are written as SARIF.
@@ -40,36 +46,41 @@ pub struct Findings {
     pub results: Vec<Value>,
 }
 
-/// Does something with each ELF file among paths and in the folders among them, several at once, while a bar shows how
-/// far it is.
-pub fn collect<T: Send>(
-    paths: &[PathBuf],
-    jobs: Option<usize>,
-    read: impl Fn(&Path) -> T + Sync,
-) -> Result<Collected<T>, Failure> {
-    let pool = thread_pool(jobs)?;
-    let files = pool.install(|| Files::once_each(paths));
-    let bar = progress_bar(files.paths.len() as u64);
-    let all: Vec<_> = pool.install(|| {
-        let each = files.paths.par_iter().with_max_len(1).map(|path| {
-            let result = read(path);
-            bar.inc(1);
-            result
-        });
-        each.collect()
-    });
-    bar.finish_and_clear();
-    note_unread_files(&files);
-    Ok(Collected { all, unread: files.unread.len() })
+impl Form {
+    /// The form that these options ask for.
+    pub fn of_options(json: bool, sarif: bool) -> Form {
+        match (json, sarif) {
+            (true, _) => Form::Json,
+            (false, true) => Form::Sarif,
+            (false, false) => Form::Text,
+        }
+    }
 }
 
-/// The kind with a name, of these kinds with their names.
-pub fn kind_of_name<K: Copy>(name: &str, kinds: impl Iterator<Item = (K, &'static str)> + Clone) -> Result<K, Failure> {
-    let found = kinds.clone().find(|(_, known)| *known == name).map(|(kind, _)| kind);
-    let names = || kinds.map(|(_, name)| name).collect::<Vec<_>>().join(", ");
-    found.ok_or_else(|| {
-        Failure::Argument(format!("bad argument: no kind is named {}; the kinds are: {}", name, names()))
-    })
+impl Shown {
+    /// Refuses names of kinds that aren't known.
+    pub fn check_kinds(&self) -> Result<(), Failure> {
+        match self.kinds.iter().find(|name| !self.all_kinds.contains(&name.as_str())) {
+            None => Ok(()),
+            Some(name) => {
+                let kinds = self.all_kinds.join(", ");
+                Err(Failure::Argument(format!("bad argument: no kind is named {}; the kinds are: {}", name, kinds)))
+            }
+        }
+    }
+}
+
+/// An object of JSON with the file as its first key, or where serde_json puts it. A text is an object without its file.
+pub fn json_in_file(object: &Value, path: &Path) -> String {
+    let file = path.to_string_lossy();
+    match object {
+        Value::String(text) => format!("{{\"file\":{},{}", Quoted(&file), text.strip_prefix('{').unwrap_or(text)),
+        object => {
+            let mut object = object.clone();
+            object["file"] = json!(file);
+            object.to_string()
+        }
+    }
 }
 
 /// Says something of a file on standard error. If that is closed, nobody can read it, so it doesn't matter that it
@@ -78,23 +89,27 @@ pub fn warn_of_file(path: &Path, what: &dyn fmt::Display) {
     let _ = writeln!(io::stderr(), "dwcheck-elf: {}: {}", shown_path(path), what);
 }
 
+/// The severity with a name.
+fn severity_of_name(name: &str) -> Severity {
+    let all = [Severity::RegisterLost, Severity::Private];
+    all.into_iter().find(|severity| severity.to_string() == name).unwrap_or(Severity::BacktraceBroken)
+}
+
 impl Findings {
-    /// Writes the findings of a file that aren't known, or keeps them for SARIF, and counts them.
-    pub fn write(
-        &mut self,
-        out: &mut impl Write,
-        findings: Vec<WrittenFinding>,
-        mut known: Remaining,
-    ) -> io::Result<()> {
-        for finding in findings {
-            if known.take(&finding.key) {
+    /// Writes the findings of a file that are shown and aren't known, or keeps them for SARIF, and counts them.
+    pub fn write(&mut self, out: &mut impl Write, path: &Path, findings: &[Finding], shown: &Shown) -> io::Result<()> {
+        let mut known = shown.known.of(path);
+        for finding in findings.iter().filter(|one| shown.kinds.is_empty() || shown.kinds.contains(&one.kind)) {
+            let text = format!("{}: {}", shown_path(path), finding.text);
+            if known.take(&Key::of(text.lines().next().unwrap_or(""), &shown.all_kinds)) {
                 self.known += 1;
                 continue;
             }
-            self.count(finding.severity);
-            match finding.sarif {
-                Some(result) => self.results.push(result),
-                None => writeln!(out, "{}", finding.text)?,
+            self.count(severity_of_name(&finding.severity));
+            match shown.form {
+                Form::Text => writeln!(out, "{}{}", text, detail(&finding.details, "explained"))?,
+                Form::Json => writeln!(out, "{}", json_in_file(&finding.details["json"], path))?,
+                Form::Sarif => self.results.push(result_in_file(&finding.details["sarif"], path)),
             }
         }
         Ok(())

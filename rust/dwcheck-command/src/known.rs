@@ -83,8 +83,13 @@ fn parse_finding_line(line: &str, kinds: &[&str]) -> Option<(String, Key)> {
 fn function_of_finding(name: &str, place: &str) -> String {
     match name {
         NAMELESS => place.to_string(),
-        name => name.rsplit_once("+0x").map_or(name, |(name, _)| name).to_string(),
+        name => without_offset(name).to_string(),
     }
+}
+
+/// The name of a function without the offset after it.
+pub fn without_offset(name: &str) -> &str {
+    name.rsplit_once("+0x").map_or(name, |(name, _)| name)
 }
 
 impl Key {

@@ -8,13 +8,17 @@ mod compare;
 mod crash;
 mod debuginfod;
 mod end;
+mod files;
 mod findings;
 mod handler;
+mod inquiry;
+mod kept;
 mod known;
 mod lint;
 mod lists;
 mod opened;
 mod output;
+mod packages;
 mod pool;
 mod profile;
 mod report;
@@ -22,6 +26,7 @@ mod rows;
 mod sarif;
 mod sframe;
 mod stack;
+mod store;
 mod survey;
 mod symbols;
 mod trace;
@@ -80,6 +85,7 @@ fn run_command(command: Command, out: &mut impl Write) -> Result<Done, Failure> 
         Command::Trace(arguments) => trace::trace(&arguments),
         Command::Profile(arguments) => profile::profile(&arguments, out),
         Command::Report(arguments) => report::report(&arguments, out),
+        Command::Store(arguments) => store::store(&arguments.command, out),
         Command::Completions(arguments) => {
             // It panics if it can't write.
             let mut text = Vec::new();

@@ -105,15 +105,24 @@ impl<'data> Opened<'data> {
     }
 }
 
-/// Writes a fault in two lines. The first says where it is, such as in which FDE, and gives its
+/// A fault in two lines, without the file. The first says where it is, such as in which FDE, and gives its
 /// name. The second has its offset, the rule that it breaks, and the hint if there is one.
-pub fn write_defect(out: &mut impl Write, path: &Path, defect: &Defect) -> io::Result<()> {
-    writeln!(out, "{}: {}", shown_path(path), defect)?;
-    write!(out, "    at {:#x}: {}", defect.offset, defect.rule)?;
-    match defect.hint {
-        Some(hint) => writeln!(out, "; {}", hint),
-        None => writeln!(out),
+pub struct DefectText<'a>(pub &'a Defect);
+
+impl fmt::Display for DefectText<'_> {
+    fn fmt(&self, f: &mut fmt::Formatter<'_>) -> fmt::Result {
+        let DefectText(defect) = self;
+        write!(f, "{}\n    at {:#x}: {}", defect, defect.offset, defect.rule)?;
+        match defect.hint {
+            Some(hint) => write!(f, "; {}", hint),
+            None => Ok(()),
+        }
     }
+}
+
+/// Writes a fault of a file in two lines.
+pub fn write_defect(out: &mut impl Write, path: &Path, defect: &Defect) -> io::Result<()> {
+    writeln!(out, "{}: {}", shown_path(path), DefectText(defect))
 }
 
 /// Makes a process with a frame section as its only module, at the addresses that it is linked for.

@@ -5,8 +5,9 @@ use crate::end::{shown_path, Done, Failure};
 use crate::opened::{open_elf, parse_program, write_note};
 use crate::output::{temporary_file, Output};
 use dwcheck_elf::debug_files::DebugFiles;
+use dwcheck_elf::mapped::Bytes;
 use dwcheck_elf::program::Program;
-use dwcheck_elf::symbols::{SymbolCounts, SymbolSource, SymbolsWriteError};
+use dwcheck_elf::symbols::{Separate, SymbolCounts, SymbolSource, SymbolsWriteError};
 use std::fs::{self, File};
 use std::io::{self, BufWriter, Seek, SeekFrom, Write};
 use std::path::{Path, PathBuf};
@@ -42,8 +43,9 @@ fn write_symbols(arguments: &SymbolsArguments, path: &Path, out: &mut impl Write
         program: &program,
         path,
         bytes: &bytes,
-        separate: separate.as_ref(),
+        separate: separate.as_ref().map(|(path, bytes, program)| Separate { path, bytes, program }),
         shared: shared.as_ref(),
+        files: &files,
         raw_names: arguments.raw_names,
     };
     let mut counts = match &arguments.output {
@@ -61,6 +63,9 @@ fn write_symbols(arguments: &SymbolsArguments, path: &Path, out: &mut impl Write
     Ok(if arguments.strict { Done::Refused } else { Done::Accepted })
 }
 
+/// A separate file of debug information: its path, its bytes, and the same read.
+type SeparateFile<'f> = (PathBuf, &'f Bytes, Program<'f>);
+
 /// The separate file of debug information of a program, and the one that has what several such files share. What can't
 /// be used is said in `unused`.
 fn debug_information<'f>(
@@ -68,24 +73,24 @@ fn debug_information<'f>(
     program: &Program<'_>,
     files: &'f DebugFiles,
     unused: &mut Vec<String>,
-) -> (Option<Program<'f>>, Option<Program<'f>>) {
+) -> (Option<SeparateFile<'f>>, Option<Program<'f>>) {
     // It is also found by the folder of the program.
     let whole = path.canonicalize().unwrap_or_else(|_| path.to_path_buf());
     let separate = files.find(&whole, program).unwrap_or_else(|(file, why)| {
         unused.push(format!("{}: {}", shown_path(&file), why));
         None
     });
-    let separate = separate.and_then(|(file, bytes)| Some((file, Program::read(bytes).ok()?)));
+    let separate = separate.and_then(|(file, bytes)| Some((file, bytes, Program::read(bytes).ok()?)));
     let shared = match &separate {
         _ if program.has_section(".debug_info") => files.shared(&whole, program),
-        Some((file, separate)) => files.shared(file, separate),
+        Some((file, _, separate)) => files.shared(file, separate),
         None => Ok(None),
     };
     let shared = shared.unwrap_or_else(|why| {
         unused.push(why.to_string());
         None
     });
-    (separate.map(|(_, program)| program), shared.and_then(|bytes| Program::read(bytes).ok()))
+    (separate, shared.and_then(|bytes| Program::read(bytes).ok()))
 }
 
 /// Writes a symbol file to its place in a store, and a line that says what it has. With `is_strict`, it isn't stored if

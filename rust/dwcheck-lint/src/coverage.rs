@@ -89,19 +89,35 @@ impl Coverage {
 
     /// Each count with its name.
     pub fn named(&self) -> Vec<(&'static str, u32)> {
+        let mut copy = *self;
+        copy.named_mut().map(|(name, count)| (name, *count)).collect()
+    }
+
+    /// The counts that have these names. Other names are passed over.
+    pub fn of_named<'n>(counts: impl IntoIterator<Item = (&'n str, u32)>) -> Coverage {
+        let mut coverage = Coverage::default();
+        for (name, count) in counts {
+            let found = coverage.named_mut().find(|(known, _)| *known == name);
+            found.into_iter().for_each(|(_, own)| *own = count);
+        }
+        coverage
+    }
+
+    fn named_mut(&mut self) -> impl Iterator<Item = (&'static str, &mut u32)> {
         let counts = [
-            ("fdes", self.fdes),
-            ("signal-frames", self.signal_frames),
-            ("unread", self.unread),
-            ("instructions", self.instructions),
-            ("judged", self.judged),
-            ("partly", self.partly),
-            ("assumed", self.assumed),
-            ("unknown-jumps", self.unknown_jumps),
-            ("data", self.data),
-            ("undecoded", self.undecoded),
+            ("fdes", &mut self.fdes),
+            ("signal-frames", &mut self.signal_frames),
+            ("unread", &mut self.unread),
+            ("instructions", &mut self.instructions),
+            ("judged", &mut self.judged),
+            ("partly", &mut self.partly),
+            ("assumed", &mut self.assumed),
+            ("unknown-jumps", &mut self.unknown_jumps),
+            ("data", &mut self.data),
+            ("undecoded", &mut self.undecoded),
         ];
-        counts.into_iter().chain(REASONS.iter().map(|(reason, name)| (*name, self.skipped(*reason)))).collect()
+        // The reasons are in the order of their numbers.
+        counts.into_iter().chain(REASONS.iter().map(|(_, name)| *name).zip(&mut self.unjudged))
     }
 }
 

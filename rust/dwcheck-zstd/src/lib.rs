@@ -11,8 +11,13 @@
 use std::error::Error;
 use std::ffi::CStr;
 use std::fmt;
+use std::io::{self, Read};
+use std::ops::Range;
 use std::os::raw::{c_char, c_uint, c_void};
 use std::ptr::NonNull;
+
+/// How many bytes of a stream are read at once.
+const PART: usize = 1 << 16;
 
 /// `ZSTD_inBuffer`.
 #[repr(C)]
@@ -116,6 +121,52 @@ impl fmt::Debug for Decoder {
     fn fmt(&self, f: &mut fmt::Formatter<'_>) -> fmt::Result {
         f.debug_struct("Decoder").finish_non_exhaustive()
     }
+}
+
+/// What a stream of frames holds.
+#[derive(Debug)]
+pub struct Reader<R> {
+    frames: R,
+    decoder: Decoder,
+    buffer: Vec<u8>,
+    /// The bytes of the buffer that the decoder hasn't taken yet.
+    rest: Range<usize>,
+}
+
+impl<R: Read> Reader<R> {
+    /// A reader at the beginning of a stream.
+    ///
+    /// # Errors
+    ///
+    /// If memory is short.
+    pub fn new(frames: R) -> io::Result<Reader<R>> {
+        let decoder = Decoder::new().map_err(invalid_data)?;
+        Ok(Reader { frames, decoder, buffer: vec![0; PART], rest: 0..0 })
+    }
+}
+
+impl<R: Read> Read for Reader<R> {
+    fn read(&mut self, output: &mut [u8]) -> io::Result<usize> {
+        loop {
+            let input = self.buffer.get(self.rest.clone()).unwrap_or(&[]);
+            let (taken, given, ran) = self.decoder.run(input, output);
+            ran.map_err(invalid_data)?;
+            self.rest.start += taken;
+            if given > 0 {
+                return Ok(given);
+            }
+            if taken == 0 {
+                self.rest = 0..self.frames.read(&mut self.buffer)?;
+                if self.rest.is_empty() {
+                    return Ok(0);
+                }
+            }
+        }
+    }
+}
+
+fn invalid_data(error: ZstdError) -> io::Error {
+    io::Error::new(io::ErrorKind::InvalidData, error)
 }
 
 impl fmt::Display for ZstdError {

@@ -1,13 +1,27 @@
 //! The arguments of the commands that go through many files: `survey`, `lint`, `compare`, `symbols` and `report`.
 
-use super::Notes;
+use super::{DebuginfodArguments, Notes};
 use clap::Args;
+use dwcheck_store::Shard;
 use std::ffi::OsString;
 use std::path::PathBuf;
 
+/// Where answers are kept, and which files are taken.
+#[derive(Args, Debug)]
+pub struct StoreArguments {
+    /// Keep what is found in this store, a database of SQLite, and don't do again what stands there for the same content
+    /// and the same version of this program. It is made if it isn't there. Several processes of one machine may use it
+    #[arg(long, value_name = "FILE")]
+    pub store: Option<PathBuf>,
+    /// Take only the files of this part of N, from 1 to N. Each content is in exactly one part, whatever its files are
+    /// called
+    #[arg(long, value_name = "K/N")]
+    pub shard: Option<Shard>,
+}
+
 #[derive(Args, Debug)]
 pub struct SurveyArguments {
-    /// Folders and files
+    /// ELF files, Debian packages, and folders of them
     #[arg(required = true)]
     pub paths: Vec<PathBuf>,
     /// Write a line of JSON for each file, and one for the totals
@@ -29,12 +43,14 @@ pub struct SurveyArguments {
     #[arg(long, value_name = "N")]
     pub jobs: Option<usize>,
     #[command(flatten)]
+    pub kept: StoreArguments,
+    #[command(flatten)]
     pub notes: Notes,
 }
 
 #[derive(Args, Debug)]
 pub struct LintArguments {
-    /// Programs, libraries, unlinked objects, and folders of them
+    /// Programs, libraries, unlinked objects, Debian packages, and folders of them
     #[arg(required_unless_present = "confirm")]
     pub paths: Vec<PathBuf>,
     /// Show registers, too, that a function never gives back. Without it they aren't counted
@@ -59,10 +75,14 @@ pub struct LintArguments {
     /// Read this many files at once, instead of one for each processor
     #[arg(long, value_name = "N")]
     pub jobs: Option<usize>,
+    #[command(flatten)]
+    pub kept: StoreArguments,
     /// Run PROGRAM, step the functions with findings, and say of each whether it is so. Without PATH, the files
     /// are those whose code the program runs
-    #[arg(long, requires = "program", conflicts_with_all = ["explain", "json", "sarif", "known", "kind", "private", "jobs"])]
+    #[arg(long, requires = "program", conflicts_with_all = ["explain", "json", "sarif", "known", "kind", "private", "jobs", "store", "shard"])]
     pub confirm: bool,
+    #[command(flatten)]
+    pub debuginfod: DebuginfodArguments,
     /// The program, and its arguments
     #[arg(last = true, requires = "confirm", value_name = "PROGRAM ARGUMENTS")]
     pub program: Vec<OsString>,
@@ -83,11 +103,14 @@ pub struct ReportArguments {
     /// times
     #[arg(long, value_name = "NAME")]
     pub function: Vec<String>,
+    /// Keep the page in this store, and don't make again what stands there for the same programs and the same version
+    #[arg(long, value_name = "FILE")]
+    pub store: Option<PathBuf>,
 }
 
 #[derive(Args, Debug)]
 pub struct CompareArguments {
-    /// Programs, libraries, unlinked objects, and folders of them
+    /// Programs, libraries, unlinked objects, Debian packages, and folders of them
     #[arg(required = true)]
     pub paths: Vec<PathBuf>,
     /// Write a line of JSON for each finding, for each file and for the totals
@@ -112,6 +135,8 @@ pub struct CompareArguments {
     /// Read this many files at once, instead of one for each processor
     #[arg(long, value_name = "N")]
     pub jobs: Option<usize>,
+    #[command(flatten)]
+    pub kept: StoreArguments,
 }
 
 #[derive(Args, Debug)]

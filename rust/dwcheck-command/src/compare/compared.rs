@@ -1,84 +1,123 @@
 //! Compares the tables of one file.
 
 use super::finding::File;
-use crate::findings::WrittenFinding;
-use crate::survey::files::map_file;
-use dwcheck_elf::compare::{compare, Compared, HeaderPair, Kind, Others, Pair};
+use crate::files::map_file;
+use crate::inquiry::{unread, Inquiry, Subject};
+use dwcheck_elf::compare::{compare, Compared, HeaderPair, Others, Pair};
 use dwcheck_elf::debug_files::DebugFiles;
 use dwcheck_elf::functions::Functions;
 use dwcheck_elf::lines::Lines;
 use dwcheck_elf::lint::LintError;
 use dwcheck_elf::mapped::Bytes;
 use dwcheck_elf::program::Program;
+use dwcheck_store::{self as store, Answer, Digest, Outcome};
 use dwcheck_symbols::{debug_id, Identity};
 use serde_json::{json, Value};
 use std::io;
 use std::path::{Path, PathBuf};
-use typed_arena::Arena;
 
-/// What is shown.
-pub struct Shown {
-    /// Whether findings are written as JSON.
-    pub json: bool,
-    /// Whether findings are written as SARIF.
-    pub sarif: bool,
+/// What is asked of each file.
+pub struct Asked {
     /// Whether the separate file of debug information is read.
     pub has_separate: bool,
     /// The store in which symbol files are, or the only one.
     pub symbols: Option<PathBuf>,
-    /// The kinds that are shown. Empty if all are.
-    pub kinds: Vec<Kind>,
-    /// The names of all kinds.
-    pub kind_names: Vec<&'static str>,
+    /// Whether the source lines of findings are looked up.
+    pub has_lines: bool,
 }
 
-/// The result for a file.
-pub struct ComparedFile {
-    pub path: PathBuf,
-    pub outcome: Outcome,
+/// The other files with tables of a program, and why others can't be used.
+struct Beside<'f> {
+    separate: Option<&'f Bytes>,
+    symbols: Option<Bytes>,
+    unused: Vec<String>,
 }
 
-/// The result for a file.
-pub enum Outcome {
-    /// Its tables were compared. The texts say what was: empty if there are no two tables.
-    Compared { findings: Vec<WrittenFinding>, bytes: u64, entries: usize, unused: Vec<String>, texts: Vec<String> },
-    /// The file can't be read.
-    Unread(String),
-}
+impl Inquiry for Asked {
+    fn command(&self) -> &'static str {
+        "compare"
+    }
 
-impl Shown {
-    /// Whether findings of a kind are shown.
-    pub fn has(&self, kind: Kind) -> bool {
-        self.kinds.is_empty() || self.kinds.contains(&kind)
+    fn options(&self) -> Vec<String> {
+        if self.has_lines {
+            vec!["lines".to_string()]
+        } else {
+            Vec::new()
+        }
+    }
+
+    fn looks_beside(&self) -> bool {
+        true
+    }
+
+    fn inputs(&self, subject: &Subject<'_>, _: &Answer) -> Option<Vec<String>> {
+        self.others(subject)
+    }
+
+    fn answer_to_keep(&self, subject: &Subject<'_>) -> (Answer, Option<Vec<String>>) {
+        // A file that is replaced after this has another digest than the one that is kept.
+        let inputs = self.others(subject);
+        (self.answer(subject), inputs)
+    }
+
+    fn answer(&self, subject: &Subject<'_>) -> Answer {
+        let program = match subject.program() {
+            Ok(program) => program,
+            Err(error) => return unread(error.to_string()),
+        };
+        let files = DebugFiles::default();
+        let mut beside = self.beside(subject.path, &program, &files);
+        let separate = beside.separate.and_then(|bytes| Program::read(bytes).ok());
+        let others = Others { separate: separate.as_ref(), symbols: beside.symbols.as_deref() };
+        let found = compare(&program, others, &|| program.functions());
+        beside.unused.extend(found.unused.iter().cloned());
+        let bytes = found.pairs.iter().map(|pair| pair.bytes).sum();
+        let entries = found.header.as_ref().map_or(0, |header| header.fdes as u64);
+        Answer {
+            outcome: Outcome::Read,
+            findings: if has_findings(&found) { self.findings(&program, &found) } else { Vec::new() },
+            totals: vec![("bytes".to_string(), bytes), ("entries".to_string(), entries)],
+            details: json!({ "notes": beside.unused, "pairs": compared_pairs(&found) }),
+        }
     }
 }
 
-/// Compares the tables of a file.
-pub fn compare_file(path: &Path, shown: &Shown) -> ComparedFile {
-    let outcome = match map_file(path) {
-        Ok(data) => compare_bytes(path, &data, shown),
-        Err(error) => Outcome::Unread(format!("cannot read: {}", error)),
-    };
-    ComparedFile { path: path.to_path_buf(), outcome }
-}
+impl Asked {
+    /// The other files of a program decide what is found, too. If one can't be used, that isn't kept.
+    fn others(&self, subject: &Subject<'_>) -> Option<Vec<String>> {
+        let program = match subject.program() {
+            Ok(program) => program,
+            Err(_) => return Some(Vec::new()),
+        };
+        let files = DebugFiles::default();
+        let beside = self.beside(subject.path, &program, &files);
+        let others = [("separate", beside.separate), ("symbols", beside.symbols.as_ref())];
+        let named = others.into_iter().filter_map(|(name, bytes)| Some((name, Digest::of(bytes?))));
+        let inputs = named.map(|(name, digest)| format!("{}={}", name, digest)).collect();
+        beside.unused.is_empty().then(|| inputs)
+    }
 
-fn compare_bytes(path: &Path, data: &[u8], shown: &Shown) -> Outcome {
-    let program = match Program::read(data) {
-        Ok(program) => program,
-        Err(error) => return Outcome::Unread(error.to_string()),
-    };
-    let files = DebugFiles::default();
-    let mut unused = Vec::new();
-    let separate = if shown.has_separate { separate_file(path, &program, &files, &mut unused) } else { None };
-    let symbols = shown.symbols.as_deref().and_then(|store| symbol_file(path, &program, store, &mut unused));
-    let others = Others { separate: separate.as_ref(), symbols: symbols.as_deref() };
-    let found = compare(&program, others, &|| program.functions());
-    unused.extend(found.unused.iter().cloned());
-    let texts = coverage_lines(path, &found, shown);
-    let bytes = found.pairs.iter().map(|pair| pair.bytes).sum();
-    let entries = found.header.as_ref().map_or(0, |header| header.fdes);
-    let findings = if has_findings(&found) { write_findings(path, &program, &found, shown) } else { Vec::new() };
-    Outcome::Compared { findings, bytes, entries, unused, texts }
+    fn beside<'f>(&self, path: &Path, program: &Program<'_>, files: &'f DebugFiles) -> Beside<'f> {
+        let mut unused = Vec::new();
+        let separate = if self.has_separate { separate_file(path, program, files, &mut unused) } else { None };
+        let symbols = self.symbols.as_deref().and_then(|store| symbol_file(path, program, store, &mut unused));
+        Beside { separate, symbols, unused }
+    }
+
+    fn findings(&self, program: &Program<'_>, found: &Compared) -> Vec<store::Finding> {
+        let functions: Functions<'_> = program.functions();
+        let image = program.image();
+        let files = DebugFiles::default();
+        let lines = self.has_lines.then(|| Lines::read(program, None, &files)).flatten();
+        let machine = LintError::of(program).ok();
+        let file = File { functions: &functions, image: &image, lines, machine, has_lines: self.has_lines };
+        let of_header = found.header.iter().flat_map(|header| &header.differences);
+        let mut all: Vec<_> = of_header.map(|one| file.header(one)).collect();
+        for pair in &found.pairs {
+            all.extend(pair.differences.iter().map(|one| file.difference(pair, one)));
+        }
+        all
+    }
 }
 
 fn has_findings(found: &Compared) -> bool {
@@ -92,23 +131,19 @@ fn separate_file<'f>(
     program: &Program<'_>,
     files: &'f DebugFiles,
     unused: &mut Vec<String>,
-) -> Option<Program<'f>> {
+) -> Option<&'f Bytes> {
     // It is also found by the folder of the program.
     let whole = path.canonicalize().unwrap_or_else(|_| path.to_path_buf());
-    match files.find(&whole, program) {
+    let (file, why) = match files.find(&whole, program) {
         Ok(Some((file, bytes))) => match Program::read(bytes) {
-            Ok(separate) => Some(separate),
-            Err(error) => {
-                unused.push(format!("{}: {}", crate::end::shown_path(&file), error));
-                None
-            }
+            Ok(_) => return Some(bytes),
+            Err(error) => (file, error.to_string()),
         },
-        Ok(None) => None,
-        Err((file, why)) => {
-            unused.push(format!("{}: {}", crate::end::shown_path(&file), why));
-            None
-        }
-    }
+        Ok(None) => return None,
+        Err((file, why)) => (file, why.to_string()),
+    };
+    unused.push(format!("{}: {}", crate::end::shown_path(&file), why));
+    None
 }
 
 /// The symbol file of a program, if it is in a store. A file that was given is that of the program.
@@ -131,31 +166,11 @@ fn symbol_file(path: &Path, program: &Program<'_>, store: &Path, unused: &mut Ve
     }
 }
 
-fn write_findings(path: &Path, program: &Program<'_>, found: &Compared, shown: &Shown) -> Vec<WrittenFinding> {
-    let functions: Functions<'_> = program.functions();
-    let image = program.image();
-    let unpacked = Arena::new();
-    let lines = shown.sarif.then(|| Lines::read(program, None, &unpacked)).flatten();
-    let machine = LintError::of(program).ok();
-    let file = File { path, functions: &functions, image: &image, lines, machine, shown };
-    let of_header = found.header.iter().flat_map(|header| &header.differences);
-    let mut all: Vec<_> = of_header.filter(|one| shown.has(one.kind)).map(|one| file.header(one)).collect();
-    for pair in &found.pairs {
-        let differences = pair.differences.iter().filter(|one| shown.has(one.kind));
-        all.extend(differences.map(|one| file.difference(pair, one)));
-    }
-    all
-}
-
-/// A line for each pair of tables: what was compared.
-fn coverage_lines(path: &Path, found: &Compared, shown: &Shown) -> Vec<String> {
-    let pairs = found.pairs.iter().map(|pair| match shown.json {
-        true => pair_json(path, pair).to_string(),
-        false => format!("{}: {}", crate::end::shown_path(path), pair_text(pair)),
-    });
-    let header = found.header.iter().map(|header| match shown.json {
-        true => header_json(path, header).to_string(),
-        false => format!("{}: .eh_frame and .eh_frame_hdr: fdes {}", crate::end::shown_path(path), header.fdes),
+/// What was compared, for each pair of tables: as a text and as an object of JSON, without the file.
+fn compared_pairs(found: &Compared) -> Vec<Value> {
+    let pairs = found.pairs.iter().map(|pair| json!({ "text": pair_text(pair), "json": pair_json(pair) }));
+    let header = found.header.iter().map(|header| {
+        json!({ "text": format!(".eh_frame and .eh_frame_hdr: fdes {}", header.fdes), "json": header_json(header) })
     });
     pairs.chain(header).collect()
 }
@@ -175,10 +190,9 @@ fn pair_text(pair: &Pair) -> String {
     text
 }
 
-fn pair_json(path: &Path, pair: &Pair) -> Value {
+fn pair_json(pair: &Pair) -> Value {
     let not_said: Value = pair.not_said.iter().map(|(why, bytes)| (why.to_string(), json!(bytes))).collect();
     json!({
-        "file": path.to_string_lossy(),
         "tables": [pair.tables[0].to_string(), pair.tables[1].to_string()],
         "bytes": pair.bytes,
         "only": pair.only,
@@ -187,6 +201,6 @@ fn pair_json(path: &Path, pair: &Pair) -> Value {
     })
 }
 
-fn header_json(path: &Path, header: &HeaderPair) -> Value {
-    json!({ "file": path.to_string_lossy(), "tables": [".eh_frame", ".eh_frame_hdr"], "fdes": header.fdes })
+fn header_json(header: &HeaderPair) -> Value {
+    json!({ "tables": [".eh_frame", ".eh_frame_hdr"], "fdes": header.fdes })
 }

@@ -1,8 +1,6 @@
 //! Writes what differs between the tables of a file as text, as JSON and as SARIF.
 
-use super::compared::Shown;
-use crate::findings::WrittenFinding;
-use crate::known::{Key, NAMELESS};
+use crate::known::{without_offset, NAMELESS};
 use crate::sarif::sarif_location;
 use dwcheck_elf::compare::{named, Difference, HeaderDifference, Kind, Pair, Severity, Support, TableRow};
 use dwcheck_elf::functions::Functions;
@@ -10,17 +8,17 @@ use dwcheck_elf::image::Image;
 use dwcheck_elf::lines::Lines;
 use dwcheck_elf::names::FunctionOffset;
 use dwcheck_lint::machine::Machine;
+use dwcheck_store::Finding;
 use serde_json::{json, Value};
-use std::path::Path;
 
 /// A file whose differences are written.
 pub struct File<'a> {
-    pub path: &'a Path,
     pub functions: &'a Functions<'a>,
     pub image: &'a Image<'a>,
     pub lines: Option<Lines<'a>>,
     pub machine: Option<&'static Machine>,
-    pub shown: &'a Shown,
+    /// Whether the source lines of findings are looked up.
+    pub has_lines: bool,
 }
 
 /// What a finding has in all forms.
@@ -37,7 +35,7 @@ struct Parts {
 
 impl File<'_> {
     /// What differs between two tables with rows.
-    pub fn difference(&self, pair: &Pair, difference: &Difference) -> WrittenFinding {
+    pub fn difference(&self, pair: &Pair, difference: &Difference) -> Finding {
         let Difference { kind, address, bytes, places, .. } = *difference;
         let [first, second] = &pair.tables;
         let rows = [self.row(&difference.rows[0]), self.row(&difference.rows[1])];
@@ -66,11 +64,11 @@ impl File<'_> {
             "code": difference.code,
             "supports": supported(pair, difference.support),
         });
-        self.written(&Parts { kind, address, what, rest, fields })
+        self.described(&Parts { kind, address, what, rest, fields })
     }
 
     /// What differs between the sorted table of `.eh_frame_hdr` and `.eh_frame`.
-    pub fn header(&self, difference: &HeaderDifference) -> WrittenFinding {
+    pub fn header(&self, difference: &HeaderDifference) -> Finding {
         let HeaderDifference { kind, address, count } = *difference;
         let one = count == 1;
         let what = match kind {
@@ -86,29 +84,32 @@ impl File<'_> {
         };
         let what = what.replace("{}", &count.to_string());
         let fields = json!({ "tables": [".eh_frame", ".eh_frame_hdr"], "count": count });
-        self.written(&Parts { kind, address, what, rest: Vec::new(), fields })
+        self.described(&Parts { kind, address, what, rest: Vec::new(), fields })
     }
 
-    fn written(&self, parts: &Parts) -> WrittenFinding {
+    fn described(&self, parts: &Parts) -> Finding {
         let Parts { kind, address, what, rest, .. } = parts;
         let name = self.name(*address);
         let function = name.as_deref().unwrap_or(NAMELESS);
-        let path = crate::end::shown_path(self.path);
         let message = format!("{} at {} ({}): {}: {}", kind, function, self.place(*address), kind.severity(), what);
-        let first = format!("{}: {}", path, message);
-        let key = Key::of(&first, &self.shown.kind_names);
-        let text = match self.shown.json {
-            true => self.json(parts, name.as_deref()).to_string(),
-            false => rest.iter().fold(first, |text, line| format!("{}\n    {}", text, line)),
-        };
-        let sarif = self.shown.sarif.then(|| self.sarif(parts, name.as_deref(), &message));
-        WrittenFinding { key, severity: kind.severity(), text, sarif }
+        let text = rest.iter().fold(message.clone(), |text, line| format!("{}\n    {}", text, line));
+        let mut details = json!({ "json": self.json(parts, name.as_deref()) });
+        if self.has_lines {
+            details["sarif"] = self.sarif(parts, name.as_deref(), &message);
+        }
+        Finding {
+            kind: kind.name().to_string(),
+            severity: kind.severity().to_string(),
+            function: name.as_deref().map(|name| without_offset(name).to_string()),
+            address: self.place(*address),
+            text,
+            details,
+        }
     }
 
     fn json(&self, parts: &Parts, function: Option<&str>) -> Value {
         let Parts { kind, address, fields, .. } = parts;
         let mut object = json!({
-            "file": self.path.to_string_lossy(),
             "kind": kind.name(),
             "severity": kind.severity().to_string(),
             "address": address,
@@ -124,9 +125,8 @@ impl File<'_> {
         let Parts { kind, address, rest, fields, .. } = parts;
         let line = self.lines.as_ref().and_then(|lines| lines.line(*address));
         let logical = function.map_or_else(|| self.place(*address), str::to_string);
-        let plain = logical.rsplit_once("+0x").map_or(logical.as_str(), |(name, _)| name).to_string();
-        let file = self.path.file_name().map_or_else(String::new, |name| name.to_string_lossy().into_owned());
-        let place = sarif_location(self.path, Some(*address), line.as_ref());
+        let plain = without_offset(&logical).to_string();
+        let place = sarif_location(Some(*address), line.as_ref());
         let text = rest.iter().fold(message.to_string(), |text, line| format!("{}\n{}", text, line));
         let level = if kind.severity() == Severity::BacktraceBroken { "error" } else { "warning" };
         json!({
@@ -134,7 +134,7 @@ impl File<'_> {
             "level": level,
             "message": { "text": text },
             "locations": [{ "physicalLocation": place, "logicalLocations": [{ "fullyQualifiedName": logical }] }],
-            "partialFingerprints": { "kindAndFunction": format!("{}: {} at {}", file, kind, plain) },
+            "partialFingerprints": { "kindAndFunction": format!("{} at {}", kind, plain) },
             "properties": fields,
         })
     }

@@ -1,166 +1,169 @@
-//! Lints one file: its findings as they are written, and how much of it was judged.
+//! Lints one file: its findings, and how much of it was judged, as an answer.
 
+use super::names::Names;
 use super::sarif;
-use crate::findings::WrittenFinding;
-use crate::known::Key;
-use crate::survey::files::map_file;
+use crate::inquiry::{unread, Inquiry, Subject};
+use crate::known::without_offset;
+use dwcheck_elf::debug_files::DebugFiles;
+use dwcheck_elf::fetch::Fetcher;
 use dwcheck_elf::frames::Name;
 use dwcheck_elf::functions::Functions;
-use dwcheck_elf::lines::Lines;
 use dwcheck_elf::lint::{LintError, Sections};
-use dwcheck_elf::names::FunctionOffset;
 use dwcheck_elf::program::Program;
 use dwcheck_elf::sframe::SframeSection;
 use dwcheck_lint::coverage::Coverage;
 use dwcheck_lint::explain::{explain, Line};
 use dwcheck_lint::finding::{Finding, Severity};
-use dwcheck_lint::finding_text::{Json, Quoted, Text};
-use dwcheck_lint::kinds::Kind;
+use dwcheck_lint::finding_text::{Json, ShownAddress, Text};
 use dwcheck_lint::lint::Lint;
 use dwcheck_lint::module::Module;
-use std::path::{Path, PathBuf};
-use typed_arena::Arena;
+use dwcheck_store::{self as store, Answer, Outcome};
+use serde_json::{json, Map, Value};
 
 /// How many lines of an explanation are shown before a change of what is wrong, and after it.
 const AROUND: (usize, usize) = (4, 2);
 
-/// What is shown.
-pub struct Shown {
+/// What is asked of each file.
+pub struct Asked {
     /// Whether registers are shown that functions never give back.
-    pub private: bool,
+    pub has_private: bool,
     /// Whether the instructions around a finding are shown.
-    pub explain: bool,
-    /// Whether findings are written as JSON.
-    pub json: bool,
-    /// Whether findings are written as SARIF.
-    pub sarif: bool,
-    /// The kinds that are shown. Empty if all are.
-    pub kinds: Vec<Kind>,
-    /// The names of all kinds.
-    pub kind_names: Vec<&'static str>,
+    pub is_explained: bool,
+    /// Whether the source lines of findings are looked up.
+    pub has_lines: bool,
+    /// What fetches separate files of debug information that aren't here. It is no option of the question: which file
+    /// gives the names decides the answer, and not where it was found.
+    pub fetcher: Fetcher,
 }
 
-/// The result for a file.
-pub struct Linted {
-    pub path: PathBuf,
-    pub outcome: Outcome,
-}
-
-/// The result for a file.
-pub enum Outcome {
-    /// The file was judged. `text` says how much of it.
-    Judged { findings: Vec<WrittenFinding>, coverage: Box<Coverage>, unused: Vec<String>, text: String },
-    /// The file's code isn't read.
-    Other(LintError),
-    /// The file can't be read.
-    Unread(String),
-}
-
-/// Lints a file.
-pub fn lint_file(path: &Path, shown: &Shown) -> Linted {
-    let outcome = match map_file(path) {
-        Ok(data) => lint_bytes(path, &data, shown),
-        Err(error) => Outcome::Unread(format!("cannot read: {}", error)),
-    };
-    Linted { path: path.to_path_buf(), outcome }
-}
-
-fn lint_bytes(path: &Path, data: &[u8], shown: &Shown) -> Outcome {
-    let program = match Program::read(data) {
-        Ok(program) => program,
-        Err(error) => return Outcome::Unread(error.to_string()),
-    };
-    if let Err(error) = LintError::of(&program) {
-        return Outcome::Other(error);
+impl Inquiry for Asked {
+    fn command(&self) -> &'static str {
+        "lint"
     }
-    let sections = Sections::read(&program);
-    let functions = program.functions();
-    let module = match sections.module(&program, &functions) {
-        Ok(module) => module,
-        Err(error) => return Outcome::Other(error),
-    };
-    let unpacked = Arena::new();
-    let lines = shown.sarif.then(|| Lines::read(&program, None, &unpacked)).flatten();
-    let (mut unused, mut texts) = (sections.unused.clone(), Vec::new());
-    let (mut findings, mut coverage) = (Vec::new(), Coverage::default());
-    let mut add = |module: &Module<'_>| {
-        let file = File { path, module, functions: &functions, lines: lines.as_ref() };
-        let (found, judged) = file.judged(shown);
-        texts.push(file.coverage(&judged, shown));
-        findings.extend(found);
-        coverage.add(&judged);
-    };
-    add(&module);
-    match SframeSection::read(&program) {
-        Ok(None) => {}
-        Ok(Some(section)) => match section.check() {
-            Ok(sframe) => sections.sframe_module(&program, &functions, &sframe).iter().for_each(&mut add),
-            Err(error) => unused.push(format!("{}: {}", Name::Sframe, error)),
-        },
-        Err(error) => unused.push(error.to_string()),
+
+    fn options(&self) -> Vec<String> {
+        let options = [("explain", self.is_explained), ("lines", self.has_lines), ("private", self.has_private)];
+        let asked = options.into_iter().filter(|(_, is_asked)| *is_asked);
+        asked.map(|(name, _)| name.to_string()).collect()
     }
-    Outcome::Judged { findings, coverage: Box::new(coverage), unused, text: texts.join("\n") }
+
+    /// An answer without findings has no names, so that no other file is looked for, and no server is asked.
+    fn inputs(&self, subject: &Subject<'_>, kept: &Answer) -> Option<Vec<String>> {
+        if kept.findings.is_empty() {
+            return Some(Vec::new());
+        }
+        let program = subject.program().ok()?;
+        let (functions, files) = (Functions::default(), self.files());
+        let names = Names::of(subject, &program, &functions, &files, self.has_lines);
+        names.inputs()
+    }
+
+    fn answer(&self, subject: &Subject<'_>) -> Answer {
+        self.answer_with_inputs(subject, |_| ()).0
+    }
+
+    fn answer_to_keep(&self, subject: &Subject<'_>) -> (Answer, Option<Vec<String>>) {
+        let (answer, inputs) = self.answer_with_inputs(subject, |names| names.used_inputs());
+        (answer, inputs.unwrap_or_else(|| Some(Vec::new())))
+    }
 }
 
-/// A file whose findings are written.
-struct File<'a, 'm, 'l> {
-    path: &'a Path,
+impl Asked {
+    /// Where separate files are looked for.
+    fn files(&self) -> DebugFiles {
+        DebugFiles::default().fetching(&self.fetcher)
+    }
+
+    /// Finds the answer, and what `inputs_of` says of the names in it, if the file could be judged.
+    fn answer_with_inputs<T>(
+        &self,
+        subject: &Subject<'_>,
+        inputs_of: impl FnOnce(&Names<'_>) -> T,
+    ) -> (Answer, Option<T>) {
+        let program = match subject.program() {
+            Ok(program) => program,
+            Err(error) => return (unread(error.to_string()), None),
+        };
+        let (functions, files) = (program.functions(), self.files());
+        let names = Names::of(subject, &program, &functions, &files, self.has_lines);
+        match LintError::of(&program).and_then(|_| self.judge(&program, &functions, &names)) {
+            Ok(answer) => (answer, Some(inputs_of(&names))),
+            Err(error) => (Answer { outcome: Outcome::Other, ..unread(error.to_string()) }, None),
+        }
+    }
+
+    fn judge(&self, program: &Program<'_>, functions: &Functions<'_>, names: &Names<'_>) -> Result<Answer, LintError> {
+        let sections = Sections::read(program);
+        let module = sections.module(program, functions)?;
+        let mut notes = sections.unused.clone();
+        let (mut findings, mut judged, mut coverage) = (Vec::new(), Vec::new(), Coverage::default());
+        let mut add = |module: &Module<'_>| {
+            let file = File { module, names };
+            let (found, counts) = file.judged(self);
+            let named: Map<_, _> =
+                counts.named().into_iter().map(|(name, count)| (name.to_string(), json!(count))).collect();
+            judged.push(json!({ "table": module.table.as_deref(), "counts": named }));
+            findings.extend(found);
+            coverage.add(&counts);
+        };
+        add(&module);
+        match SframeSection::read(program) {
+            Ok(None) => {}
+            Ok(Some(section)) => match section.check() {
+                Ok(sframe) => sections.sframe_module(program, functions, &sframe).iter().for_each(&mut add),
+                Err(error) => notes.push(format!("{}: {}", Name::Sframe, error)),
+            },
+            Err(error) => notes.push(error.to_string()),
+        }
+        notes.extend(names.problem());
+        let totals = coverage.named().into_iter().map(|(name, count)| (name.to_string(), u64::from(count)));
+        let (outcome, details) = (Outcome::Read, json!({ "notes": notes, "judged": judged }));
+        Ok(Answer { outcome, findings, totals: totals.collect(), details })
+    }
+}
+
+/// A file whose findings are described.
+struct File<'a, 'm, 'n> {
     module: &'a Module<'m>,
-    functions: &'a Functions<'a>,
-    lines: Option<&'a Lines<'l>>,
+    names: &'a Names<'n>,
 }
 
 impl<'m> File<'_, 'm, '_> {
-    /// The findings that are shown, and what was judged.
-    fn judged(&self, shown: &Shown) -> (Vec<WrittenFinding>, Coverage) {
+    /// The findings, and what was judged.
+    fn judged(&self, asked: &Asked) -> (Vec<store::Finding>, Coverage) {
         let mut lint = Lint::run(self.module);
         let report = lint.report();
-        let is_shown = |finding: &&Finding<'_>| {
-            let is_kind = shown.kinds.is_empty() || shown.kinds.contains(&finding.kind);
-            is_kind && (shown.private || finding.severity != Severity::Private)
-        };
-        let findings = report.findings.iter().filter(is_shown).map(|finding| self.written(finding, &mut lint, shown));
+        let is_shown = |finding: &&Finding<'_>| asked.has_private || finding.severity != Severity::Private;
+        let findings = report.findings.iter().filter(is_shown).map(|finding| self.described(finding, &mut lint, asked));
         (findings.collect(), report.coverage)
     }
 
-    fn name(&self, address: u64) -> Option<String> {
-        FunctionOffset::at(self.functions, address).map(|spot| spot.to_string())
-    }
-
-    fn written(&self, finding: &Finding<'m>, lint: &mut Lint<'m>, shown: &Shown) -> WrittenFinding {
-        let names = |address| self.name(address);
-        let mut text = format!("{}: {}", crate::end::shown_path(self.path), Text(self.module, finding, &names));
-        let key = Key::of(text.lines().next().unwrap_or(""), &shown.kind_names);
-        if shown.json {
-            let object = Json(self.module, finding, &names).to_string();
-            text = format!("{{\"file\":{},{}", Quoted(&self.path.to_string_lossy()), &object[1..]);
-        } else if shown.explain {
-            text.push_str(&explained_lines(&explain(lint, finding.fde).unwrap_or_default()));
+    fn described(&self, finding: &Finding<'m>, lint: &mut Lint<'m>, asked: &Asked) -> store::Finding {
+        let names = |address| self.names.function(address);
+        let address = finding.mark.address;
+        let text = Text(self.module, finding, &names).to_string();
+        let mut details = json!({ "json": Json(self.module, finding, &names).to_string() });
+        if asked.is_explained {
+            details["explained"] = json!(explained_lines(&explain(lint, finding.fde).unwrap_or_default()));
         }
-        let sarif = shown.sarif.then(|| self.result(finding, &text));
-        WrittenFinding { key, severity: finding.severity, text, sarif }
+        if asked.has_lines {
+            details["sarif"] = self.result(finding, &text);
+        }
+        store::Finding {
+            kind: finding.kind.to_string(),
+            severity: finding.severity.to_string(),
+            function: names(address).map(|name| without_offset(&name).to_string()),
+            address: ShownAddress(self.module, address).to_string(),
+            text,
+            details,
+        }
     }
 
     /// A finding, whose text this is, as a result of SARIF.
-    fn result(&self, finding: &Finding<'m>, text: &str) -> serde_json::Value {
+    fn result(&self, finding: &Finding<'m>, text: &str) -> Value {
         let address = finding.mark.address;
-        let line = self.lines.and_then(|lines| lines.line(address));
-        let message = text.get(crate::end::shown_path(self.path).len() + 2..).unwrap_or(text);
-        sarif::finding_as_result(self.path, self.module, finding, message, self.name(address), line)
-    }
-
-    /// How much of the file was judged.
-    fn coverage(&self, coverage: &Coverage, shown: &Shown) -> String {
-        if shown.json {
-            let named = coverage.named();
-            let counts: Vec<_> = named.iter().map(|(name, count)| format!("\"{}\":{}", name, count)).collect();
-            let file = Quoted(&self.path.to_string_lossy()).to_string();
-            let table = self.module.table.as_deref().map(|table| format!(",\"table\":{}", Quoted(table)));
-            let table = table.unwrap_or_default();
-            return format!("{{\"file\":{}{},\"coverage\":{{{}}}}}", file, table, counts.join(","));
-        }
-        let table = self.module.table.as_deref().map(|table| format!("{}: ", table)).unwrap_or_default();
-        format!("{}: {}{}", crate::end::shown_path(self.path), table, coverage)
+        let (function, line) = (self.names.function(address), self.names.line(address));
+        sarif::finding_as_result(self.module, finding, text, function, line)
     }
 }
 

@@ -8,12 +8,10 @@ use dwcheck_lint::finding_text::ShownAddress;
 use dwcheck_lint::kinds::{Kind, KINDS};
 use dwcheck_lint::module::Module;
 use serde_json::{json, Value};
-use std::path::Path;
 
 /// A finding as a result. `text` is its first line, without the file, and `function` names the function with
 /// its offset.
 pub fn finding_as_result(
-    path: &Path,
     module: &Module<'_>,
     finding: &Finding<'_>,
     text: &str,
@@ -23,16 +21,15 @@ pub fn finding_as_result(
     let address = finding.mark.address;
     let logical = function.unwrap_or_else(|| ShownAddress(module, address).to_string());
     let fingerprint = logical.rsplit_once("+0x").map_or(logical.as_str(), |(name, _)| name).to_string();
-    let file = path.file_name().map_or_else(String::new, |name| name.to_string_lossy().into_owned());
-    let place = sarif_location(path, Some(address), line.as_ref());
+    let place = sarif_location(Some(address), line.as_ref());
     json!({
         "ruleId": finding.kind.to_string(),
         "level": level_of_severity(finding.severity),
         "message": { "text": text },
         "locations": [{ "physicalLocation": place, "logicalLocations": [{ "fullyQualifiedName": logical }] }],
-        "partialFingerprints": { "kindAndFunction": format!("{}: {} at {}", file, finding.kind, fingerprint) },
+        "partialFingerprints": { "kindAndFunction": format!("{} at {}", finding.kind, fingerprint) },
         "properties": {
-            "file": path.to_string_lossy(),
+            "file": "",
             "place": ShownAddress(module, address).to_string(),
             "severity": finding.severity.to_string(),
             "directive": finding.directive(),

@@ -1,12 +1,14 @@
 //! Writes the results of a survey as lines of JSON, each of which is an object.
 
-use super::files::Files;
+use super::contents::{Held, Section};
 use super::totals::Totals;
-use super::{Held, Section, Surveyed};
+use crate::files::Files;
 use dwcheck_elf::fault::{Defect, Within};
 use dwcheck_elf::lists;
+use dwcheck_store::Answer;
 use serde_json::{json, Map, Value};
 use std::io::{self, Write};
+use std::path::Path;
 
 /// Writes an object for each file and folder that can't be read.
 pub fn write_json_unread(out: &mut impl Write, files: &Files) -> io::Result<()> {
@@ -15,8 +17,11 @@ pub fn write_json_unread(out: &mut impl Write, files: &Files) -> io::Result<()> 
 }
 
 /// Writes the object for a file.
-pub fn write_json_file(out: &mut impl Write, surveyed: &Surveyed) -> io::Result<()> {
-    writeln!(out, "{}", json_file(surveyed))
+pub fn write_json_file(out: &mut impl Write, path: &Path, answer: &Answer) -> io::Result<()> {
+    let mut object = json!({ "file": path.to_string_lossy() });
+    let shown = ["machine", "sections", "error"].into_iter().filter(|name| !answer.details[*name].is_null());
+    shown.for_each(|name| object[name] = answer.details[name].clone());
+    writeln!(out, "{}", object)
 }
 
 /// Writes the last object.
@@ -26,24 +31,12 @@ pub fn write_json_totals(out: &mut impl Write, all: &Totals) -> io::Result<()> {
 
 /// The counts of all files, by their names.
 pub fn json_totals(totals: &Totals) -> Value {
-    let counts: Map<_, _> = totals.named().iter().map(|(name, count)| (name.to_string(), json!(count))).collect();
+    let counts: Map<_, _> = totals.named().map(|(name, count)| (name.to_string(), json!(count))).collect();
     Value::Object(counts)
 }
 
-fn json_file(one: &Surveyed) -> Value {
-    let Surveyed { path, machine, outcome } = one;
-    let mut object = json!({ "file": path.to_string_lossy() });
-    if let Some(machine) = machine {
-        object["machine"] = json!(machine);
-    }
-    match outcome {
-        Ok(sections) => object["sections"] = sections.iter().map(json_section).collect(),
-        Err(error) => object["error"] = json!(error.to_string()),
-    }
-    object
-}
-
-fn json_section(section: &Section) -> Value {
+/// The object for a section.
+pub fn json_section(section: &Section) -> Value {
     let name = section.name.to_string();
     let bytes = section.bytes;
     if let Some(error) = &section.error {

@@ -1,78 +1,61 @@
 //! The totals of a survey: counts of files and sections.
 
-use super::files::Files;
-use super::{Held, Section, Surveyed};
 use crate::end::Done;
-use dwcheck_elf::frames::Notes;
+use crate::files::Files;
+use dwcheck_store::{Answer, Outcome};
 use std::io::{self, Write};
 
-/// Counts over all files.
+/// The names of the counts, in the order in which they are written: a line for files, one for sections, one for what
+/// accepted sections hold, and one for notes on frame sections.
+///
+/// `files` are ELF files, no two of which have the same bytes; `repeated` are further ones, each with the same bytes as
+/// one of these. `unread` counts files and folders that couldn't be read, and files with a section that couldn't be.
+/// A section that couldn't be rewritten has no bytes.
+const LINES: [(&str, &[&str]); 4] = [
+    ("", &["files", "repeated", "unread"]),
+    ("", &["sections", "accepted", "refused", "bytes"]),
+    ("", &["cies", "fdes", "rows", "lists", "expressions"]),
+    ("note ", &["signal-frames", "args-sizes", "mended", "empty-records", "copies", "negated"]),
+];
+
+/// How many counts there are.
+const COUNTS: usize = 18;
+
+/// Counts over all files, in the order of their names.
 #[derive(Clone, Copy, Debug, Default)]
-pub struct Totals {
-    /// ELF files, no two of which have the same bytes.
-    pub files: usize,
-    /// Further ELF files, each with the same bytes as a file that is counted in `files`.
-    pub repeated: usize,
-    /// Files and folders that couldn't be read, and files with a section that couldn't be.
-    pub unread: usize,
-    /// Sections that were checked.
-    pub sections: usize,
-    /// Sections that were accepted.
-    pub accepted: usize,
-    /// Sections that were refused.
-    pub refused: usize,
-    /// Bytes of all sections that were checked. A section that couldn't be rewritten counts as 0.
-    pub bytes: usize,
-    /// CIEs, FDEs and rows of accepted frame sections, in this field and the two that follow.
-    pub cies: usize,
-    pub fdes: usize,
-    pub rows: usize,
-    /// Lists and expressions of accepted location lists, in this field and the next.
-    pub lists: usize,
-    pub expressions: usize,
-    /// What frame sections have that isn't a rule, and what was read in another way.
-    pub notes: Notes,
+pub struct Totals([u64; COUNTS]);
+
+fn names() -> impl Iterator<Item = &'static str> {
+    LINES.iter().flat_map(|(_, names)| names.iter().copied())
 }
 
 impl Totals {
     /// Totals that count only what can't be read or is repeated.
     pub fn of(files: &Files) -> Self {
-        Totals { repeated: files.repeated, unread: files.unread.len(), ..Totals::default() }
+        let mut totals = Totals::default();
+        totals.add("repeated", files.repeated as u64);
+        totals.add("unread", files.unread.len() as u64);
+        totals
     }
 
     /// Counts a file and its sections.
-    pub fn count(&mut self, surveyed: &Surveyed) {
-        self.files += 1;
-        self.unread += usize::from(surveyed.is_unread());
-        surveyed.outcome.iter().flatten().for_each(|section| self.add(section));
+    pub fn count(&mut self, answer: &Answer) {
+        self.add("files", 1);
+        self.add("unread", u64::from(answer.outcome == Outcome::Unread));
+        answer.totals.iter().for_each(|(name, count)| self.add(name, *count));
     }
 
-    fn add(&mut self, section: &Section) {
-        if section.error.is_some() {
-            return;
+    /// Adds to the count with a name.
+    pub fn add(&mut self, name: &str, count: u64) {
+        if let Some((_, own)) = names().zip(&mut self.0).find(|(known, _)| *known == name) {
+            *own = own.saturating_add(count);
         }
-        self.sections += 1;
-        self.bytes += section.bytes;
-        self.accepted += usize::from(section.defects.is_empty());
-        self.refused += usize::from(!section.defects.is_empty());
-        match section.held {
-            Held::Frames { cies, fdes, rows } => {
-                self.cies += cies;
-                self.fdes += fdes;
-                self.rows += rows;
-            }
-            Held::Lists { lists, expressions } => {
-                self.lists += lists;
-                self.expressions += expressions;
-            }
-            Held::Unknown => {}
-        }
-        self.notes += section.notes;
     }
 
     /// How the survey ended, for the exit status.
     pub fn done(&self) -> Done {
-        match (self.unread, self.refused) {
+        let count = |wanted| self.named().find(|(name, _)| *name == wanted).map_or(0, |(_, count)| count);
+        match (count("unread"), count("refused")) {
             (0, 0) => Done::Accepted,
             (0, _) => Done::Refused,
             _ => Done::Unread,
@@ -80,39 +63,17 @@ impl Totals {
     }
 
     /// Each count with its name, in the order in which they are written.
-    pub fn named(&self) -> [(&'static str, usize); 18] {
-        [
-            ("files", self.files),
-            ("repeated", self.repeated),
-            ("unread", self.unread),
-            ("sections", self.sections),
-            ("accepted", self.accepted),
-            ("refused", self.refused),
-            ("bytes", self.bytes),
-            ("cies", self.cies),
-            ("fdes", self.fdes),
-            ("rows", self.rows),
-            ("lists", self.lists),
-            ("expressions", self.expressions),
-            ("signal-frames", self.notes.signal_frames),
-            ("args-sizes", self.notes.args_sizes),
-            ("mended", self.notes.mended),
-            ("empty-records", self.notes.empty_records),
-            ("copies", self.notes.copies),
-            ("negated", self.notes.negated),
-        ]
+    pub fn named(&self) -> impl Iterator<Item = (&'static str, u64)> + '_ {
+        names().zip(self.0)
     }
 
     /// Writes the totals: a line for files, a line for sections, and a line for what the sections
     /// hold. If `has_notes`, also a line of notes on frame sections.
     pub fn write(&self, out: &mut impl Write, has_notes: bool) -> io::Result<()> {
-        let named = self.named();
-        let (files, rest) = named.split_at(3);
-        let (sections, rest) = rest.split_at(4);
-        let (contents, notes) = rest.split_at(5);
-        let lines = [("", files), ("", sections), ("", contents), ("note ", notes)];
-        for (word, line) in lines.iter().filter(|(word, _)| has_notes || word.is_empty()) {
-            let counts: Vec<_> = line.iter().map(|(name, count)| format!("{} {}", name, count)).collect();
+        let mut named = self.named();
+        for (word, names) in LINES.iter().filter(|(word, _)| has_notes || word.is_empty()) {
+            let counts: Vec<_> =
+                named.by_ref().take(names.len()).map(|(name, count)| format!("{} {}", name, count)).collect();
             writeln!(out, "{}{}", word, counts.join(" "))?;
         }
         Ok(())

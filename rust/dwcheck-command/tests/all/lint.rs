@@ -468,6 +468,29 @@ fn findings_as_sarif() {
     assert_eq!(dwcheck_elf(&folder, "lint --sarif --json linked").status, 2);
 }
 
+/// The symbols and the lines of a stripped library are in its separate file.
+#[test]
+fn findings_are_named_by_the_separate_file_of_debug_information() {
+    let folder = Folder::new("lint-separate");
+    folder.write("a.s", TEXT.replace(".globl wrong\n", ""));
+    folder.run("gcc -g -nostdlib -shared a.s -o whole.so && objcopy --only-keep-debug whole.so a.debug");
+    folder.run("objcopy --strip-all whole.so a.so && objcopy --add-gnu-debuglink=a.debug a.so");
+    let named = |ran: &str| ran.contains("push without row at wrong+0x1 (0x");
+    let ran = dwcheck_elf(&folder, "lint a.so");
+    assert!(named(&ran.out) && ran.error.is_empty(), "{}{}", ran.out, ran.error);
+    let sarif = dwcheck_elf(&folder, "lint --sarif a.so").out;
+    // The function's second instruction is in the fifth line of what is left of TEXT.
+    assert!(sarif.contains("a.s\"") && sarif.contains("\"startLine\": 5"), "{}", sarif);
+    folder.run("printf x >> a.debug");
+    let other = dwcheck_elf(&folder, "lint a.so");
+    assert!(
+        !named(&other.out) && other.out.contains("push without row at a function without a name (0x"),
+        "{}",
+        other.out
+    );
+    assert!(other.error.contains("its checksum isn't the one in .gnu_debuglink"), "{}", other.error);
+}
+
 /// Programs of which bytes were changed: each is read to its end, or refused.
 #[test]
 fn changed_programs() {

@@ -25,6 +25,7 @@ mod live;
 mod minidumps;
 mod modules;
 mod objects;
+mod packages;
 mod profile;
 mod profile_formats;
 mod profile_made;
@@ -35,6 +36,7 @@ mod report_page;
 mod same_frames;
 mod sframe;
 mod stacks;
+mod stored;
 mod surveys;
 mod symbols;
 #[cfg(all(target_os = "linux", target_arch = "x86_64"))]

@@ -85,6 +85,39 @@ fn lines_and_inlined_functions_are_those_of_the_program() {
     assert_eq!(stop(&after.out), "stop: return undefined");
 }
 
+/// The same source is compiled with its debug information in the program, in files of their own, and in a package.
+#[test]
+fn units_in_files_of_their_own_have_the_same_functions_and_lines() {
+    let folder = Folder::new("symbols-split");
+    if !has("dwp") || !has("clang") || !has("llvm-dwp") {
+        return;
+    }
+    folder.write("a.c", SOURCE);
+    folder.write("b.c", "int outer(int n); int other(int n) { return n * n; } int (*f)(int) = other;");
+    // The first two lines have the build id.
+    let records = |folder: &Folder| folder.run(&format!("tail -n +3 {}", symbol_file(folder)));
+    // Neither packer reads what gcc writes of DWARF 5: one crashes, and the other one doesn't end.
+    for (compiler, packer) in [("gcc -gdwarf-5", ""), ("gcc -gdwarf-4", "dwp"), ("clang -gdwarf-5", "llvm-dwp")] {
+        folder.run(&format!("rm -rf store *.dw*; {} -O2 a.c b.c -o program", compiler));
+        write(&folder, "program");
+        let expected = records(&folder);
+        assert!(expected.contains("INLINE 1 ") && expected.contains(" other\n"), "{}", expected);
+        folder.run(&format!("rm -r store; {} -O2 -gsplit-dwarf a.c b.c -o program", compiler));
+        assert_eq!(write(&folder, "program").error, "");
+        assert_eq!(records(&folder), expected);
+        if !packer.is_empty() {
+            folder.run(&format!("rm -r store; {} -e program -o program.dwp; rm *.dwo", packer));
+            assert_eq!(write(&folder, "program").error, "");
+            assert_eq!(records(&folder), expected);
+        }
+        folder.run("rm -rf store *.dw*");
+        let ran = write(&folder, "program");
+        let why = ": .debug_info: the functions of 2 units are in other files, such as ";
+        assert!(ran.error.contains(why) && ran.error.ends_with(".dwo, which aren't there\n"), "{}", ran.error);
+        assert!(!records(&folder).contains("FUNC ") && records(&folder).contains(" 0 other\n"), "{}", records(&folder));
+    }
+}
+
 /// A core file that has neither the program's code nor its tables: its caller in the C library is one of a table, and the
 /// program's frames are those of the symbol file.
 #[test]

@@ -121,11 +121,11 @@ fn inspect_split<'d, 'a>(
     let mut results = Vec::new();
     let mut missing = Vec::new();
     for index in split {
-        let root = units.as_ref().and_then(|units| units.root(*index));
-        let opened = files.and_then(|files| SplitFile::open(root.as_ref()?, files, &[]));
+        let skeleton = units.as_ref().and_then(|units| Some(units.root(*index)?.skeleton()));
+        let opened = files.and_then(|files| SplitFile::open(skeleton.as_ref()?, files, &[]));
         match opened.filter(|opened| opened.skeleton.encoding().version >= 5) {
             Some(opened) => results.extend(inspect_split_file(&opened, lowest, check)),
-            None => missing.push(root.and_then(|root| root.split_file())),
+            None => missing.push(skeleton.and_then(|skeleton| skeleton.file_name())),
         }
     }
     if let Some(name) = missing.first().cloned() {

@@ -9,7 +9,9 @@ mod functions;
 pub use crate::cfi::stack_cfi::Unsaid;
 
 use crate::elf::code_id::build_id_of_code;
+use crate::elf::debug_files::DebugFiles;
 use crate::elf::functions::Functions;
+use crate::elf::mapped::Bytes;
 use crate::elf::program::{Kind, Program};
 use dwcheck_symbols::{debug_id, Architecture, Identity, Writer};
 use dwcheck_types::abi::abi;
@@ -28,13 +30,26 @@ pub struct SymbolSource<'p, 'data> {
     /// The path of its file, whose name is in the symbol file.
     pub path: &'p Path,
     /// The bytes of its file.
-    pub bytes: &'data [u8],
+    pub bytes: &'data Bytes,
     /// Its separate file of debug information.
-    pub separate: Option<&'p Program<'data>>,
+    pub separate: Option<Separate<'p, 'data>>,
     /// The file that has what several files of debug information share.
     pub shared: Option<&'p Program<'data>>,
+    /// Where files are looked for that have the rest of single units (`-gsplit-dwarf`).
+    pub files: &'data DebugFiles,
     /// Whether to write names of functions as they are in the file, not demangled.
     pub raw_names: bool,
+}
+
+/// A separate file of debug information.
+#[derive(Clone, Copy)]
+pub struct Separate<'p, 'data> {
+    /// Its path.
+    pub path: &'p Path,
+    /// Its bytes.
+    pub bytes: &'data Bytes,
+    /// The same, read.
+    pub program: &'p Program<'data>,
 }
 
 /// What was written, counted.
@@ -101,7 +116,7 @@ impl SymbolSource<'_, '_> {
     fn functions(&self) -> Functions<'_> {
         let (own, _) = self.program.all_functions();
         match self.separate {
-            Some(separate) => own.with(separate.functions()),
+            Some(separate) => own.with(separate.program.functions()),
             None => own,
         }
     }

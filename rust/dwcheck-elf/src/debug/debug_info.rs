@@ -6,7 +6,7 @@ mod split;
 mod units;
 
 pub(crate) use package::Package;
-pub(crate) use split::SplitFile;
+pub(crate) use split::{Skeleton, SplitFile};
 pub(crate) use units::{Die, Units};
 
 use crate::elf::program::{Program, ProgramError};

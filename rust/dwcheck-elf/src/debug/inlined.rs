@@ -7,12 +7,12 @@ mod unit_functions;
 mod unit_lines;
 mod whole_units;
 
+pub(crate) use covers::Covers;
 pub(crate) use unit_lines::LineRange;
-pub(crate) use whole_units::{UnitFunction, WholeUnit, WholeUnits};
+pub(crate) use whole_units::{UnitFunction, UnitSource, WholeUnit, WholeUnits};
 
 use crate::debug::debug_info::Slice;
 use crate::elf::program::Program;
-use covers::Covers;
 use gimli::{Dwarf, UnitHeader, UnitSectionOffset, UnitType};
 use rayon::prelude::*;
 use rustc_hash::FxHashMap;
@@ -45,18 +45,41 @@ pub(crate) fn functions_at(
 }
 
 /// The units of `.debug_info`.
-struct Info<'s> {
-    dwarf: Dwarf<Slice<'s>>,
+pub(crate) struct Info<'s> {
+    pub dwarf: Dwarf<Slice<'s>>,
     /// Their headers, in ascending order of their offsets.
-    headers: Vec<UnitHeader<Slice<'s>>>,
+    pub headers: Vec<UnitHeader<Slice<'s>>>,
 }
 
 impl<'s> Info<'s> {
     /// The units up to one that can't be read.
-    fn of(dwarf: Dwarf<Slice<'s>>) -> Info<'s> {
+    pub fn of(dwarf: Dwarf<Slice<'s>>) -> Info<'s> {
+        Info::of_each(dwarf, |_| {})
+    }
+
+    /// The same. `note` is told of each unit.
+    pub fn of_each(dwarf: Dwarf<Slice<'s>>, mut note: impl FnMut(&UnitHeader<Slice<'s>>)) -> Info<'s> {
         let mut units = dwarf.units();
-        let headers = std::iter::from_fn(|| units.next().ok().flatten()).collect();
+        let headers = std::iter::from_fn(|| units.next().ok().flatten()).inspect(|header| note(header)).collect();
         Info { dwarf, headers }
+    }
+
+    /// The unit that begins at an offset of `.debug_info`.
+    pub fn header_at(&self, offset: usize) -> Option<&UnitHeader<Slice<'s>>> {
+        self.headers.get(self.headers.binary_search_by_key(&offset, unit_begin).ok()?)
+    }
+
+    /// The addresses of all units: those that are listed, and those that units say themselves.
+    pub fn covers(&self, listed: &Covers) -> Covers {
+        let others =
+            self.headers.par_iter().filter(|header| is_unit_with_code(header) && !listed.has(unit_begin(header)));
+        let said = others.flat_map_iter(|header| {
+            let unit = unit_functions::read_unit_without_lines(&self.dwarf, *header).ok();
+            let ranges = unit.and_then(|unit| self.dwarf.unit_ranges(&unit).ok());
+            let ranges = ranges.map_or_else(Vec::new, crate::debug::debug_info::ranges_of);
+            ranges.into_iter().map(move |range| (range, unit_begin(header)))
+        });
+        listed.with(said.collect())
     }
 
     /// The index of the unit that has an offset of `.debug_info`. `None` if no unit does.
@@ -101,23 +124,10 @@ impl<'s> Search<'s> {
         let search = Search { info, shared, lacks: AtomicBool::new(false) };
         let covers = match end {
             Some(_) => listed.clone(),
-            None => search.covers(listed),
+            None => search.info.covers(listed),
         };
         let found = search.functions(&covers, addresses);
         (end.is_none() || !search.lacks.load(Ordering::Relaxed)).then_some(found)
-    }
-
-    /// The addresses of all units: those that are listed, and those that units say themselves.
-    fn covers(&self, listed: &Covers) -> Covers {
-        let others =
-            self.info.headers.par_iter().filter(|header| is_unit_with_code(header) && !listed.has(unit_begin(header)));
-        let said = others.flat_map_iter(|header| {
-            let unit = unit_functions::read_unit_without_lines(&self.info.dwarf, *header).ok();
-            let ranges = unit.and_then(|unit| self.info.dwarf.unit_ranges(&unit).ok());
-            let ranges = ranges.map_or_else(Vec::new, crate::debug::debug_info::ranges_of);
-            ranges.into_iter().map(move |range| (range, unit_begin(header)))
-        });
-        listed.with(said.collect())
     }
 
     /// The functions at addresses: each unit is read once, and different ones in parallel.

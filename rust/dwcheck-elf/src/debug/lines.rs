@@ -1,11 +1,13 @@
 //! Finds the source lines and the inlined functions of addresses, by the debug information of a
 //! program.
 
-use crate::debug::debug_info::{self, file_path, Slice};
+mod contexts;
+
+use crate::debug::debug_info::{file_path, Slice};
+use crate::elf::debug_files::DebugFiles;
 use crate::elf::program::Program;
-use gimli::{AttributeValue, Dwarf, EndianSlice, SectionId, Unit, UnitOffset};
-use once_cell::unsync::OnceCell;
-use typed_arena::Arena;
+use contexts::{Context, Contexts};
+use gimli::{AttributeValue, UnitOffset};
 
 /// A line of a source file.
 #[derive(Clone, Debug, PartialEq, Eq)]
@@ -28,117 +30,70 @@ pub struct At {
 }
 
 /// The debug information of a program.
-pub struct Lines<'a> {
-    context: addr2line::Context<Slice<'a>>,
-    /// Whether the entries of a unit are deeper than [`DEEPEST`], once that was asked.
-    is_deep: OnceCell<bool>,
-}
-
-/// How deep the entries of a unit may be. `addr2line` reads functions that are inlined in each other by calls in each
-/// other.
-const DEEPEST: isize = 1024;
-
-/// The sections that are read.
-const NEEDED: [SectionId; 10] = [
-    SectionId::DebugAbbrev,
-    SectionId::DebugAddr,
-    SectionId::DebugAranges,
-    SectionId::DebugInfo,
-    SectionId::DebugLine,
-    SectionId::DebugLineStr,
-    SectionId::DebugRanges,
-    SectionId::DebugRngLists,
-    SectionId::DebugStr,
-    SectionId::DebugStrOffsets,
-];
+pub struct Lines<'a>(Contexts<'a>);
 
 impl<'a> Lines<'a> {
     /// Opens the debug information of a program, with that of the file that its `.gnu_debugaltlink`
-    /// names. Sections that are compressed are decompressed into `unpacked`. `None` if the program has
-    /// no debug information that can be read.
-    pub fn read(program: &Program<'a>, shared: Option<&Program<'a>>, unpacked: &'a Arena<Vec<u8>>) -> Option<Self> {
-        if !program.has_section(".debug_info") {
-            return None;
-        }
-        let section = |program: &Program<'a>, id: SectionId| {
-            let empty = EndianSlice::new(&[][..], program.target().gimli_order());
-            let read = NEEDED.contains(&id).then(|| debug_info::debug_section_bytes(program, id, unpacked));
-            Ok::<_, gimli::Error>(read.and_then(Result::ok).unwrap_or(empty))
-        };
-        let mut dwarf = Dwarf::load(|id| section(program, id)).ok()?;
-        if let Some(shared) = shared {
-            dwarf.load_sup(|id| section(shared, id)).ok()?;
-        }
-        addr2line::Context::from_dwarf(dwarf).ok().map(|context| Lines { context, is_deep: OnceCell::new() })
+    /// names. `files` keeps what is decompressed. `None` if the program has no debug information that can be read.
+    pub fn read(program: &Program<'a>, shared: Option<&Program<'a>>, files: &'a DebugFiles) -> Option<Self> {
+        let is_there = program.has_section(".debug_info");
+        is_there.then(|| Contexts::open(program, shared, files)).flatten().map(Lines)
     }
 
     /// The line of an address. `None` if no table has it.
     pub fn line(&self, address: u64) -> Option<SourceLine> {
-        SourceLine::of(self.context.find_location(address).ok()??)
+        self.0.find(address, |context| SourceLine::of(context.units.find_location(address).ok()??))
     }
 
     /// The functions at an address, the innermost first. The last one is the function that isn't
     /// inlined.
     pub fn functions(&self, address: u64) -> Vec<At> {
-        let mut found = Vec::new();
-        if *self.is_deep.get_or_init(|| is_unit_too_deep(self.context.dwarf())) {
-            return found;
-        }
-        if let Ok(mut frames) = self.context.find_frames(address) {
-            let mut inlined = None;
-            while let Ok(Some(frame)) = frames.next() {
-                let name = frame.function.as_ref().and_then(|function| Some(function.raw_name().ok()?.into_owned()));
-                let source = frame.location.and_then(|location| self.source(location, address, inlined));
-                found.push(At { name, source });
-                inlined = frame.dw_die_offset;
-            }
-        }
-        found
+        let functions = |context: &Context<'_>| match context.is_deep {
+            true => Some(Vec::new()),
+            false => Some(functions_in(&context.units, address)).filter(|found| !found.is_empty()),
+        };
+        self.0.find(address, functions).unwrap_or_default()
     }
 
     /// Whether the debug information of the unit at an address is in a file of its own (`-gsplit-dwarf`).
     pub(crate) fn is_split(&self, address: u64) -> bool {
-        self.context.find_dwarf_unit(address).map_or(false, |unit| unit.dwo_id.is_some())
-    }
-
-    /// The line of a location: that of an address, or that of the call of an inlined function, which has its entry
-    /// at this offset. `addr2line` has no file for a call in the file 0, which in DWARF 5 is the unit's own.
-    fn source(
-        &self,
-        location: addr2line::Location<'_>,
-        address: u64,
-        inlined: Option<UnitOffset<usize>>,
-    ) -> Option<SourceLine> {
-        if location.file.is_some() {
-            return SourceLine::of(location);
-        }
-        let unit = self.context.find_dwarf_unit(address)?;
-        let file = match unit.entry(inlined?).ok()?.attr_value(gimli::DW_AT_call_file).ok()?? {
-            AttributeValue::FileIndex(index) => file_path(self.context.dwarf(), unit, index)?,
-            _ => return None,
-        };
-        SourceLine::of(addr2line::Location { file: Some(&file), ..location })
+        let is_split = |context: &Context<'_>| Some(context.units.find_dwarf_unit(address)?.dwo_id.is_some());
+        self.0.find(address, is_split).unwrap_or(false)
     }
 }
 
-/// Whether the entries of a unit are too deep.
-fn is_unit_too_deep(dwarf: &Dwarf<Slice<'_>>) -> bool {
-    let mut units = dwarf.units();
-    let mut headers = std::iter::from_fn(|| units.next().ok().flatten());
-    headers.any(|header| dwarf.unit(header).and_then(|unit| is_deep_unit(&unit)).unwrap_or(false))
-}
-
-fn is_deep_unit(unit: &Unit<Slice<'_>>) -> gimli::Result<bool> {
-    let mut entries = unit.entries_raw(None)?;
-    while !entries.is_empty() {
-        if entries.next_depth() > DEEPEST {
-            return Ok(true);
-        }
-        if let Some(abbreviation) = entries.read_abbreviation()? {
-            entries.skip_attributes(abbreviation.attributes())?;
+/// The functions that some units have at an address, the innermost first.
+fn functions_in(units: &addr2line::Context<Slice<'_>>, address: u64) -> Vec<At> {
+    let mut found = Vec::new();
+    if let Ok(mut frames) = units.find_frames(address) {
+        let mut inlined = None;
+        while let Ok(Some(frame)) = frames.next() {
+            let name = frame.function.as_ref().and_then(|function| Some(function.raw_name().ok()?.into_owned()));
+            let source = frame.location.and_then(|location| source(units, location, address, inlined));
+            found.push(At { name, source });
+            inlined = frame.dw_die_offset;
         }
     }
-    Ok(false)
+    found
+}
+
+/// The line of a location: that of an address, or that of the call of an inlined function, which has its entry
+/// at this offset. `addr2line` has no file for a call in the file 0, which in DWARF 5 is the unit's own.
+fn source(
+    units: &addr2line::Context<Slice<'_>>,
+    location: addr2line::Location<'_>,
+    address: u64,
+    inlined: Option<UnitOffset<usize>>,
+) -> Option<SourceLine> {
+    if location.file.is_some() {
+        return SourceLine::of(location);
+    }
+    let unit = units.find_dwarf_unit(address)?;
+    let file = match unit.entry(inlined?).ok()?.attr_value(gimli::DW_AT_call_file).ok()?? {
+        AttributeValue::FileIndex(index) => file_path(units.dwarf(), unit, index)?,
+        _ => return None,
+    };
+    SourceLine::of(addr2line::Location { file: Some(&file), ..location })
 }
 
 impl SourceLine {

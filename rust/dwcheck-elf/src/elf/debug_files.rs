@@ -1,10 +1,12 @@
 //! Finds separate files of debug information: by build id in `/usr/lib/debug/.build-id`, or by the
 //! section `.gnu_debuglink`.
 
+use crate::elf::compressed::SectionBytes;
 use crate::elf::escaped::Escaped;
 use crate::elf::fetch::Fetcher;
 use crate::elf::mapped::Bytes;
 use crate::elf::program::Program;
+use std::borrow::Cow;
 use std::ffi::{OsStr, OsString};
 use std::fmt;
 use std::fs::File;
@@ -60,9 +62,23 @@ impl DebugFiles {
         DebugFiles { fetcher: fetcher.clone(), ..self }
     }
 
+    /// Looks in the same folders, and keeps none of the files that were opened.
+    pub(crate) fn emptied(&self) -> Self {
+        DebugFiles { fetcher: self.fetcher.clone(), ..DebugFiles::with_folders(&self.root, &self.folders) }
+    }
+
     /// Where the bytes of sections that are decompressed are kept.
     pub fn unpacked(&self) -> &Arena<Vec<u8>> {
         &self.unpacked
+    }
+
+    /// Keeps the bytes of a section.
+    pub(crate) fn keep<'f>(&'f self, bytes: SectionBytes<'f>) -> &'f [u8] {
+        match bytes {
+            SectionBytes::Held(Cow::Borrowed(bytes)) => bytes,
+            SectionBytes::Held(Cow::Owned(bytes)) => self.unpacked.alloc(bytes),
+            SectionBytes::InFile(bytes) => self.files.alloc(bytes),
+        }
     }
 
     /// The file of debug information of a program whose file is `path`. `None` if there is none. If

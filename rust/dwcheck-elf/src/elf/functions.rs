@@ -91,7 +91,8 @@ impl<'data> Functions<'data> {
 
     /// These functions, and those of another file that has the same code, such as a file of debug
     /// information.
-    pub(crate) fn with(mut self, other: Functions<'data>) -> Self {
+    #[must_use]
+    pub fn with(mut self, other: Functions<'data>) -> Self {
         self.functions.extend(other.functions);
         Functions::of(self.functions)
     }

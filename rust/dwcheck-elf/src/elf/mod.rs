@@ -4,6 +4,7 @@
 //! It uses no other part.
 
 pub mod code_id;
+pub mod compressed;
 pub mod constants;
 pub mod covered;
 pub mod debug_files;
@@ -16,6 +17,7 @@ pub mod functions;
 pub mod image;
 pub mod layout;
 pub mod mapped;
+mod nameless_file;
 pub mod other_file;
 pub mod plt;
 pub mod program;

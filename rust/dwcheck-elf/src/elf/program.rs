@@ -2,7 +2,11 @@
 //! segments, build id and debug links.
 
 mod by_segment;
+mod compiler;
 
+pub use crate::elf::compressed::DECOMPRESSED_LIMIT;
+
+use crate::elf::compressed::{NotDecompressed, SectionBytes, Stored};
 use crate::elf::constants::{self, Constants};
 use crate::elf::format::{Format, Name};
 use crate::elf::functions::Functions;
@@ -11,9 +15,8 @@ use crate::elf::layout::{is_loaded_section, Layout};
 use crate::elf::other_file::OtherFile;
 use crate::elf::relocate::{self, RelocationError};
 use dwcheck_types::target::{AddressSize, Order, Target};
-use flate2::{Decompress, FlushDecompress};
 use object::elf;
-use object::read::{CompressionFormat, Object, ObjectSection, ObjectSegment, ObjectSymbol};
+use object::read::{Object, ObjectSection, ObjectSegment, ObjectSymbol};
 use object::{SectionFlags, SegmentFlags};
 use std::borrow::Cow;
 use std::fmt;
@@ -22,22 +25,11 @@ use std::ops::{Range, RangeInclusive};
 use xz2::read::XzDecoder;
 use xz2::stream::Stream;
 
-/// A compressed section may have at most this many bytes when it is decompressed.
-pub const DECOMPRESSED_LIMIT: u64 = 1 << 30;
-
-/// Deflate makes at most this many bytes from one compressed byte.
-const DEFLATE_RATIO: u64 = 1032;
-
-/// The type of a section that is compressed by zstd.
-const ELFCOMPRESS_ZSTD: u64 = 2;
-
 /// The section with a compressed ELF file of symbols.
 const PACKED: &str = ".gnu_debugdata";
 
 /// What [`PACKED`] may have at most when it is decompressed, in bytes, and what the decoder may take.
 const PACKED_LIMIT: u64 = 128 << 20;
-
-const OTHER_SIZE: &str = "the section has another size when it is decompressed";
 
 /// What an ELF file is, by its `e_type`.
 #[derive(Clone, Copy, Debug, PartialEq, Eq)]
@@ -62,6 +54,8 @@ pub struct Program<'data> {
     target: Target,
     machine: u16,
     kind: Kind,
+    /// The functions that its separate file of debug information names, if that is used for names.
+    separate: Functions<'data>,
 }
 
 /// The bytes of a section, decompressed and with its relocations applied.
@@ -133,7 +127,13 @@ impl<'data> Program<'data> {
             elf::ET_CORE => Kind::Core,
             other => Kind::Other(other),
         };
-        Ok(Program { data, file, layout, target, machine, kind })
+        Ok(Program { data, file, layout, target, machine, kind, separate: Functions::default() })
+    }
+
+    /// The same program, with the functions that its separate file of debug information names, too.
+    #[must_use]
+    pub fn with_names_of(self, separate: &Program<'data>) -> Self {
+        Program { separate: separate.own_functions(), ..self }
     }
 
     /// The byte order and the address size.
@@ -210,7 +210,10 @@ impl<'data> Program<'data> {
 
     /// The [`functions`](Self::functions), and why `.gnu_debugdata` can't be read.
     pub(crate) fn all_functions(&self) -> (Functions<'data>, Option<ProgramError>) {
-        let own = self.own_functions();
+        let mut own = self.own_functions();
+        if !self.separate.all().is_empty() {
+            own = own.with(self.separate.clone());
+        }
         match self.packed_functions() {
             Ok(Some(packed)) => (own.with(packed), None),
             Ok(None) => (own, None),
@@ -266,11 +269,28 @@ impl<'data> Program<'data> {
         name: &'static str,
         end: usize,
     ) -> Result<Option<Cow<'data, [u8]>>, ProgramError> {
-        let found = self.only(name)?.filter(|_| self.kind != Kind::Relocatable);
-        match found.and_then(|found| unzipped_before(&found, end)) {
+        match self.stored(name)?.and_then(|stored| stored.bytes_before(end)) {
             Some(bytes) => Ok(Some(Cow::Owned(bytes))),
             None => self.debug_section(name),
         }
+    }
+
+    /// The same, but a large section that is compressed is decompressed into a file, if there is room for one.
+    pub(crate) fn debug_section_in_file(
+        &self,
+        name: &'static str,
+    ) -> Result<Option<SectionBytes<'data>>, ProgramError> {
+        match self.stored(name)?.and_then(|stored| stored.in_file()) {
+            Some(bytes) => Ok(Some(SectionBytes::InFile(bytes))),
+            None => Ok(self.debug_section(name)?.map(SectionBytes::Held)),
+        }
+    }
+
+    /// The section with this name as it is in the file, if it needs no relocations.
+    fn stored(&self, name: &'static str) -> Result<Option<Stored<'data>>, ProgramError> {
+        let found = self.only(name)?.filter(|_| self.kind != Kind::Relocatable);
+        let stored = found.map(|found| Stored::of(&found, self.target)).transpose();
+        stored.map_err(|why| ProgramError::decompressing(name, why))
     }
 
     /// Whether the file has a section with this name that has bytes in the file, compressed or not.
@@ -385,8 +405,9 @@ impl<'data> Program<'data> {
             Some(found) => found,
             None => return Ok(None),
         };
-        let mut section =
-            Section { bytes: uncompressed_section(&found, name, self.target)?, address: 0, unresolved: Vec::new() };
+        let bytes = Stored::of(&found, self.target).and_then(|stored| stored.bytes());
+        let bytes = bytes.map_err(|why| ProgramError::decompressing(name, why))?;
+        let mut section = Section { bytes, address: 0, unresolved: Vec::new() };
         if is_loaded_section(found.flags()) {
             section.address = self.layout.address(found.index());
         }
@@ -400,74 +421,13 @@ impl<'data> Program<'data> {
     }
 }
 
-/// The bytes of a section. The size that a compressed section claims is checked before any memory
-/// is allocated for it.
-fn uncompressed_section<'data>(
-    section: &object::Section<'data, '_>,
-    name: &'static str,
-    target: Target,
-) -> Result<Cow<'data, [u8]>, ProgramError> {
-    let fail = |error: object::Error| ProgramError::Section(name, error.to_string());
-    if let Some((data, size)) = compressed_by_zstd(section, target) {
-        return zstd_bytes(data, size, name).map(Cow::Owned);
-    }
-    let data = section.compressed_data().map_err(fail)?;
-    if data.format == CompressionFormat::None {
-        return Ok(Cow::Borrowed(data.data));
-    }
-    let size = data.uncompressed_size;
-    let possible = (data.data.len() as u64).saturating_mul(DEFLATE_RATIO);
-    if size > DECOMPRESSED_LIMIT.min(possible) {
-        return Err(ProgramError::TooLarge(name, size));
-    }
-    let bytes = data.decompress().map_err(fail)?;
-    if bytes.len() as u64 != size {
-        return Err(ProgramError::Section(name, OTHER_SIZE.to_string()));
-    }
-    Ok(bytes)
-}
-
-/// The first `end` bytes of a section that is compressed by zlib. `None` if it isn't, or doesn't have as many.
-fn unzipped_before(section: &object::Section<'_, '_>, end: usize) -> Option<Vec<u8>> {
-    let data = section.compressed_data().ok().filter(|data| data.format == CompressionFormat::Zlib)?;
-    let possible = DECOMPRESSED_LIMIT.min((data.data.len() as u64).saturating_mul(DEFLATE_RATIO));
-    if end as u64 > data.uncompressed_size.min(possible) {
-        return None;
-    }
-    let mut bytes = Vec::with_capacity(end);
-    // There is no room for the rest, which counts as an error that isn't one.
-    let _ = Decompress::new(true).decompress_vec(data.data, &mut bytes, FlushDecompress::Finish);
-    bytes.truncate(end);
-    Some(bytes).filter(|bytes| bytes.len() == end)
-}
-
-/// For a section that is compressed by zstd, which `object` doesn't know: the compressed bytes, and
-/// the size of the others.
-fn compressed_by_zstd<'data>(section: &object::Section<'data, '_>, target: Target) -> Option<(&'data [u8], u64)> {
-    let flags = match section.flags() {
-        SectionFlags::Elf { sh_flags } => sh_flags,
-        _ => 0,
-    };
-    let data = section.data().ok().filter(|_| flags & u64::from(elf::SHF_COMPRESSED) != 0)?;
-    // The type in 4 bytes, in 64-bit files 4 unused bytes, the size and the alignment in a word each.
-    let (word, size, header) = match target.address_size {
-        AddressSize::Four => (4, 4, 12),
-        AddressSize::Eight => (8, 8, 24),
-    };
-    let is_zstd = target.number(data.get(..4)?) == ELFCOMPRESS_ZSTD;
-    let size = target.number(data.get(size..size + word)?);
-    data.get(header..).filter(|_| is_zstd).map(|bytes| (bytes, size))
-}
-
-fn zstd_bytes(data: &[u8], size: u64, name: &'static str) -> Result<Vec<u8>, ProgramError> {
-    if size > DECOMPRESSED_LIMIT {
-        return Err(ProgramError::TooLarge(name, size));
-    }
-    let bytes = dwcheck_zstd::decompress(data, size as usize);
-    let bytes = bytes.map_err(|error| ProgramError::Section(name, error.to_string()))?;
-    match bytes.len() as u64 == size {
-        true => Ok(bytes),
-        false => Err(ProgramError::Section(name, OTHER_SIZE.to_string())),
+impl ProgramError {
+    /// Why the section with this name can't be decompressed.
+    fn decompressing(name: &'static str, why: NotDecompressed) -> Self {
+        match why {
+            NotDecompressed::Damaged(error) => ProgramError::Section(name, error),
+            NotDecompressed::TooLarge(size) => ProgramError::TooLarge(name, size),
+        }
     }
 }
 

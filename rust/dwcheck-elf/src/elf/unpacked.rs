@@ -4,11 +4,12 @@
 //! which most core files have many, are holes and take no room.
 
 use crate::elf::mapped::Bytes;
+use crate::elf::nameless_file::{folder, nameless_file};
 use flate2::read::MultiGzDecoder;
-use std::fs::{self, File, OpenOptions};
+use std::fs::File;
 use std::io::{self, ErrorKind, Read};
-use std::os::unix::fs::{FileExt, OpenOptionsExt};
-use std::path::{Path, PathBuf};
+use std::os::unix::fs::FileExt;
+use std::path::Path;
 use xz2::read::XzDecoder;
 use xz2::stream::{Stream, CONCATENATED};
 
@@ -79,10 +80,10 @@ fn unpack(packed: File, format: Format) -> io::Result<Bytes> {
 
 fn decompressor(packed: File, format: Format) -> io::Result<Box<dyn Read>> {
     Ok(match format {
-        Format::Zstd => Box::new(Decoded::of(packed, dwcheck_zstd::Decoder::new().map_err(io_error)?)),
-        Format::Lz4 => Box::new(Decoded::of(packed, dwcheck_lz4::Decoder::new().map_err(io_error)?)),
+        Format::Zstd => Box::new(dwcheck_zstd::Reader::new(packed)?),
+        Format::Lz4 => Box::new(Lz4Reader::of(packed, dwcheck_lz4::Decoder::new().map_err(damaged)?)),
         Format::Xz => {
-            let stream = Stream::new_stream_decoder(XZ_MEMORY, CONCATENATED).map_err(io_error)?;
+            let stream = Stream::new_stream_decoder(XZ_MEMORY, CONCATENATED).map_err(damaged)?;
             Box::new(XzDecoder::new_stream(packed, stream))
         }
         Format::Gzip => Box::new(MultiGzDecoder::new(packed)),
@@ -134,47 +135,28 @@ impl Sparse {
     }
 }
 
-/// A decoder that takes a part of the packed bytes at a time.
-trait Decode {
-    /// Returns how many bytes were taken, and how many were given.
-    fn run(&mut self, input: &[u8], output: &mut [u8]) -> io::Result<(usize, usize)>;
-}
-
-impl Decode for dwcheck_zstd::Decoder {
-    fn run(&mut self, input: &[u8], output: &mut [u8]) -> io::Result<(usize, usize)> {
-        let (taken, given, ran) = dwcheck_zstd::Decoder::run(self, input, output);
-        ran.map(|()| (taken, given)).map_err(io_error)
-    }
-}
-
-impl Decode for dwcheck_lz4::Decoder {
-    fn run(&mut self, input: &[u8], output: &mut [u8]) -> io::Result<(usize, usize)> {
-        let (taken, given, ran) = dwcheck_lz4::Decoder::run(self, input, output);
-        ran.map(|()| (taken, given)).map_err(io_error)
-    }
-}
-
-/// What a decoder makes of a file.
-struct Decoded<D> {
+/// What a file compressed by lz4 holds.
+struct Lz4Reader {
     packed: File,
-    decoder: D,
+    decoder: dwcheck_lz4::Decoder,
     buffer: Vec<u8>,
     /// The bytes of the buffer that the decoder hasn't taken yet: from where, and up to where.
     rest: (usize, usize),
 }
 
-impl<D: Decode> Decoded<D> {
-    fn of(packed: File, decoder: D) -> Self {
-        Decoded { packed, decoder, buffer: vec![0; PART], rest: (0, 0) }
+impl Lz4Reader {
+    fn of(packed: File, decoder: dwcheck_lz4::Decoder) -> Self {
+        Lz4Reader { packed, decoder, buffer: vec![0; PART], rest: (0, 0) }
     }
 }
 
-impl<D: Decode> Read for Decoded<D> {
+impl Read for Lz4Reader {
     fn read(&mut self, output: &mut [u8]) -> io::Result<usize> {
         loop {
             let (begin, end) = self.rest;
             let input = self.buffer.get(begin..end).unwrap_or(&[]);
-            let (taken, given) = self.decoder.run(input, output)?;
+            let (taken, given, ran) = self.decoder.run(input, output);
+            ran.map_err(damaged)?;
             self.rest.0 = begin + taken;
             if given > 0 {
                 return Ok(given);
@@ -189,27 +171,7 @@ impl<D: Decode> Read for Decoded<D> {
     }
 }
 
-/// The folder for files without names.
-fn folder() -> PathBuf {
-    let given = std::env::var_os("TMPDIR").filter(|given| !given.is_empty());
-    given.map_or_else(|| PathBuf::from("/var/tmp"), PathBuf::from)
-}
-
-/// A new file that only this program has, and that is gone when it is closed.
-fn nameless_file(folder: &Path) -> io::Result<File> {
-    let mut options = OpenOptions::new();
-    options.read(true).write(true).mode(0o600);
-    if let Ok(file) = options.clone().custom_flags(libc::O_TMPFILE).open(folder) {
-        return Ok(file);
-    }
-    // Some file systems have no files without names.
-    let path = folder.join(format!("dwcheck-elf.{}", std::process::id()));
-    let file = options.create_new(true).open(&path)?;
-    fs::remove_file(&path)?;
-    Ok(file)
-}
-
-fn io_error(error: impl std::error::Error + Send + Sync + 'static) -> io::Error {
+fn damaged(error: impl std::error::Error + Send + Sync + 'static) -> io::Error {
     io::Error::new(ErrorKind::InvalidData, error)
 }
 

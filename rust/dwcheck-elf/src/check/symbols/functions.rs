@@ -1,9 +1,10 @@
 //! Writes the functions of debug information as `FUNC`, with their lines, and other names of code as `PUBLIC`.
 
 use super::{SymbolCounts, SymbolSource};
-use crate::debug::inlined::{LineRange, UnitFunction, WholeUnit, WholeUnits};
+use crate::debug::inlined::{LineRange, UnitFunction, UnitSource, WholeUnit, WholeUnits};
 use crate::elf::covered::Covered;
 use crate::elf::demangle::{raw_name, shown_name, without_version};
+use crate::elf::escaped::Escaped;
 use crate::elf::functions::Functions;
 use dwcheck_symbols::{Inline, Writer};
 use rustc_hash::FxHashMap;
@@ -25,6 +26,35 @@ pub(super) struct FunctionWriter<'w, H, B> {
     /// The numbers of the paths of source files, and of the names of inlined functions.
     files: FxHashMap<String, usize>,
     origins: FxHashMap<String, usize>,
+}
+
+/// The files that have the functions of single units, and aren't there.
+#[derive(Default)]
+struct Missing {
+    count: usize,
+    /// The name of the first one.
+    first: Option<String>,
+}
+
+impl Missing {
+    fn add(&mut self, name: Option<&str>) {
+        self.count += usize::from(name.is_some());
+        self.first = self.first.take().or_else(|| name.map(str::to_string));
+    }
+
+    /// What is said of them.
+    fn problem(&self) -> Option<String> {
+        let first = Escaped(self.first.as_deref()?);
+        Some(match self.count {
+            1 => format!(".debug_info: the functions of a unit are in another file, {}, which isn't there", first),
+            count => {
+                format!(
+                    ".debug_info: the functions of {} units are in other files, such as {}, which aren't there",
+                    count, first
+                )
+            }
+        })
+    }
 }
 
 /// What a name is written as if it isn't known.
@@ -55,20 +85,28 @@ impl<'w, H: Write, B: Write> FunctionWriter<'w, H, B> {
 
     /// Writes the functions of all units.
     pub fn write_units(&mut self, counts: &mut SymbolCounts) -> io::Result<()> {
-        let SymbolSource { program, separate, shared, .. } = self.source;
-        let with_debug = separate.filter(|_| !program.has_section(".debug_info")).unwrap_or(program);
-        let units = match WholeUnits::read(with_debug, *shared) {
+        let SymbolSource { program, path, bytes, separate, shared, files, .. } = self.source;
+        // A package may be named after the program or after its separate file.
+        let whole = path.canonicalize().unwrap_or_else(|_| path.to_path_buf());
+        let mut source = UnitSource { program, paths: vec![&whole], shared: *shared, files, mapped: vec![bytes] };
+        if let Some(separate) = separate.as_ref().filter(|_| !program.has_section(".debug_info")) {
+            source.program = separate.program;
+            source.paths.push(separate.path);
+            source.mapped.push(separate.bytes);
+        }
+        let units = match WholeUnits::read(source) {
             Some(units) => units,
             None => return Ok(()),
         };
-        let mut split = 0;
+        let mut missing = Missing::default();
         let unread = units.each(|unit| {
-            split += usize::from(unit.is_split);
+            missing.add(unit.missing.as_deref());
             self.write_unit(&unit, counts)
         })?;
-        let problems = [(split, "has its functions in a file of its own"), (unread, "can't be read")];
-        let problems = problems.iter().filter(|(number, _)| *number > 0);
-        counts.unused.extend(problems.map(|(number, why)| format!(".debug_info: {} units: each {}", number, why)));
+        if unread > 0 {
+            counts.unused.push(format!(".debug_info: {} units can't be read", unread));
+        }
+        counts.unused.extend(missing.problem());
         Ok(())
     }
 

@@ -2,7 +2,7 @@
 //! such files that has it.
 
 use super::package::{Package, Parts};
-use super::units::{Die, Units};
+use super::units::Units;
 use super::{debug_section_by_name, Slice};
 use crate::elf::debug_files::DebugFiles;
 use crate::elf::program::{Program, ProgramError};
@@ -10,6 +10,31 @@ use dwcheck_types::target::Target;
 use gimli::{DebugAddr, DebugLineStr, DebugRanges, Dwarf, DwarfFileType, EndianSlice, RangeLists, SectionId, Unit};
 use std::path::{Path, PathBuf};
 use std::rc::Rc;
+
+/// What a program has of a unit whose debug information is in a file of its own.
+pub(crate) struct Skeleton<'u, 'a> {
+    /// The sections of the program.
+    pub dwarf: &'u Dwarf<Slice<'a>>,
+    /// The unit. With its second parameter given, the lifetime may be shortened.
+    pub unit: Rc<Unit<Slice<'a>, usize>>,
+}
+
+impl<'a> Skeleton<'_, 'a> {
+    /// The name of the file that has the rest of the unit. `None` if the unit is whole.
+    pub fn file_name(&self) -> Option<String> {
+        let mut entries = self.unit.entries();
+        let (_, root) = entries.next_dfs().ok()??;
+        let named = |name| root.attr_value(name).ok().flatten();
+        let name = named(gimli::DW_AT_dwo_name).or_else(|| named(gimli::DW_AT_GNU_dwo_name))?;
+        Some(self.dwarf.attr_string(&self.unit, name).ok()?.to_string_lossy().into_owned())
+    }
+
+    /// The path of this file.
+    fn path(&self) -> Option<PathBuf> {
+        let folder = self.unit.comp_dir.map(|folder| folder.to_string_lossy().into_owned());
+        Some(Path::new(&folder.unwrap_or_default()).join(self.file_name()?))
+    }
+}
 
 /// A file that has the rest of a unit.
 pub(crate) struct SplitFile<'a> {
@@ -34,27 +59,33 @@ enum Source<'a> {
 }
 
 impl<'a> SplitFile<'a> {
-    /// Opens the file that the first entry of a unit names, or else the first of these packages that has the unit.
-    /// `None` if the entry names no file, or if neither is there or has the unit.
-    pub fn open(root: &Die<'_, 'a>, files: &'a DebugFiles, packages: &[Rc<Package<'a>>]) -> Option<Self> {
-        let folder = root.attribute(gimli::DW_AT_comp_dir).and_then(|folder| root.string(folder));
-        let path = Path::new(&folder.unwrap_or_default()).join(root.split_file()?);
-        let own = files.at(&path).and_then(|bytes| Program::read(bytes).ok());
-        let own = own.and_then(|program| SplitFile::of(root, path, Source::Own(Box::new(program)), files));
-        own.or_else(|| {
-            let id = root.unit.dwo_id?;
-            packages.iter().find_map(|package| {
-                let source = Source::Package(Rc::clone(package), package.parts(id)?);
-                SplitFile::of(root, package.path.clone(), source, files)
-            })
+    /// Opens the file that a unit names, or else the first of these packages that has the unit. `None` if the unit names
+    /// no file, or if neither is there or has the unit.
+    pub fn open(skeleton: &Skeleton<'_, 'a>, files: &'a DebugFiles, packages: &[Rc<Package<'a>>]) -> Option<Self> {
+        SplitFile::own(skeleton, files).or_else(|| SplitFile::packed(skeleton, files, packages))
+    }
+
+    /// Opens the file that a unit names.
+    pub fn own(skeleton: &Skeleton<'_, 'a>, files: &'a DebugFiles) -> Option<Self> {
+        let path = skeleton.path()?;
+        let program = Program::read(files.at(&path)?).ok()?;
+        SplitFile::of(skeleton, path, Source::Own(Box::new(program)), files)
+    }
+
+    /// Opens the part of the first of these packages that has the unit.
+    pub fn packed(skeleton: &Skeleton<'_, 'a>, files: &'a DebugFiles, packages: &[Rc<Package<'a>>]) -> Option<Self> {
+        let id = skeleton.unit.dwo_id?;
+        packages.iter().find_map(|package| {
+            let source = Source::Package(Rc::clone(package), package.parts(id)?);
+            SplitFile::of(skeleton, package.path.clone(), source, files)
         })
     }
 
     /// A file, if it has the rest of the unit.
-    fn of(root: &Die<'_, 'a>, path: PathBuf, source: Source<'a>, files: &'a DebugFiles) -> Option<Self> {
-        let parent = &root.units.dwarf;
+    fn of(skeleton: &Skeleton<'_, 'a>, path: PathBuf, source: Source<'a>, files: &'a DebugFiles) -> Option<Self> {
+        let parent = skeleton.dwarf;
         let (addresses, lines, ranges) = (parent.debug_addr, parent.debug_line_str, *parent.ranges.debug_ranges());
-        let skeleton = Rc::clone(&root.unit);
+        let skeleton = Rc::clone(&skeleton.unit);
         let split = SplitFile { path, skeleton, source, files, addresses, lines, ranges };
         let units = split.units(&[SectionId::DebugAbbrev, SectionId::DebugInfo])?;
         let is_same = units.unit(0).ok()?.dwo_id == split.skeleton.dwo_id;

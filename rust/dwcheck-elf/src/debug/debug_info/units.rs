@@ -1,6 +1,7 @@
 //! The units of debug information, and their entries: attributes, children, ranges, and references between entries.
 
 use super::definitions::Definitions;
+use super::split::Skeleton;
 use super::Slice;
 use gimli::{AttributeValue, DebugInfoOffset, DebuggingInformationEntry, DwAt, Dwarf, Unit};
 use gimli::{DebugTypeSignature, DwTag, RangeIter, UnitHeader, UnitOffset, UnitSectionOffset, UnitType};
@@ -216,11 +217,9 @@ impl<'u, 'a> Die<'u, 'a> {
         die.string(value)
     }
 
-    /// The name of the file that has the rest of the unit, if this is the first entry of a unit whose debug
-    /// information is in a file of its own (`-gsplit-dwarf`).
-    pub fn split_file(&self) -> Option<String> {
-        let name = self.attribute(gimli::DW_AT_dwo_name).or_else(|| self.attribute(gimli::DW_AT_GNU_dwo_name));
-        self.string(name?)
+    /// What the program has of its unit, if the debug information of the unit is in a file of its own (`-gsplit-dwarf`).
+    pub fn skeleton(&self) -> Skeleton<'u, 'a> {
+        Skeleton { dwarf: &self.units.dwarf, unit: Rc::clone(&self.unit) }
     }
 
     /// The text of an attribute of this entry.

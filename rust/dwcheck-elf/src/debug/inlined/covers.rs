@@ -10,7 +10,7 @@ const MOST: usize = 16;
 
 /// The addresses of units, which are named by their offsets in `.debug_info`.
 #[derive(Clone, Debug, Default)]
-pub(super) struct Covers {
+pub(crate) struct Covers {
     /// The ranges of addresses with their units, by their first addresses.
     ranges: Vec<(Range<u64>, usize)>,
     /// For each range the highest end of it and those before it.

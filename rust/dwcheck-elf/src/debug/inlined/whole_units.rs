@@ -4,21 +4,56 @@ use super::sections::Sections;
 use super::unit_functions::{Levels, Place, Reader, Said};
 use super::unit_lines::{lines, path_of_file, LineRange};
 use super::{is_unit_with_code, unit_begin, Info, Search};
-use crate::debug::debug_info::Slice;
+use crate::debug::debug_info::{Package, Skeleton, Slice, SplitFile};
+use crate::elf::debug_files::DebugFiles;
+use crate::elf::mapped::Bytes;
 use crate::elf::program::Program;
-use gimli::{EntriesRaw, Error, Unit};
+use gimli::{EntriesRaw, Error, SectionId, Unit, UnitHeader};
 use rustc_hash::FxHashMap;
 use std::ops::Range;
+use std::path::{Path, PathBuf};
 use std::rc::Rc;
 use std::sync::atomic::AtomicBool;
 
 /// How many functions may be inlined in each other.
 const DEEPEST: usize = 128;
 
+/// The sections that are read of a file that has the rest of a unit.
+const SPLIT: [SectionId; 6] = [
+    SectionId::DebugAbbrev,
+    SectionId::DebugInfo,
+    SectionId::DebugLine,
+    SectionId::DebugRngLists,
+    SectionId::DebugStr,
+    SectionId::DebugStrOffsets,
+];
+
+/// After so many bytes of `.debug_info`, the memory of what was read of the files is given back.
+const GIVEN_BACK: usize = 16 << 20;
+
+/// Where the debug information of a program is.
+pub(crate) struct UnitSource<'p, 'a> {
+    /// The file that has it.
+    pub program: &'p Program<'a>,
+    /// The paths of this file, and of the program that it belongs to: packages are named after them.
+    pub paths: Vec<&'p Path>,
+    /// The file that its `.gnu_debugaltlink` names.
+    pub shared: Option<&'p Program<'a>>,
+    /// Where files are looked for that have the rest of single units.
+    pub files: &'a DebugFiles,
+    /// The bytes of the files that are read.
+    pub mapped: Vec<&'a Bytes>,
+}
+
 /// The debug information of a program, of which a unit at a time is in memory.
 pub(crate) struct WholeUnits<'a> {
     own: Sections<'a>,
     shared: Option<Sections<'a>>,
+    files: &'a DebugFiles,
+    /// The packages that may have the rest of units.
+    packages: Vec<(PathBuf, &'a Bytes)>,
+    /// The files whose memory is given back.
+    mapped: Vec<&'a Bytes>,
 }
 
 /// A unit.
@@ -30,8 +65,8 @@ pub(crate) struct WholeUnit {
     pub lines: Vec<LineRange>,
     /// The paths of its source files, by their numbers, those that are used.
     pub files: FxHashMap<u64, Option<String>>,
-    /// Whether its functions are in a file of their own (`-gsplit-dwarf`).
-    pub is_split: bool,
+    /// The name of the file that has its functions (`-gsplit-dwarf`), if that isn't there.
+    pub missing: Option<String>,
 }
 
 /// A function.
@@ -61,54 +96,116 @@ pub(crate) struct InlinedCall {
 }
 
 impl<'a> WholeUnits<'a> {
-    /// Opens the debug information of a program, with that of the file that its `.gnu_debugaltlink` names. `None` if
-    /// there is none.
-    pub fn read(program: &Program<'a>, shared: Option<&Program<'a>>) -> Option<Self> {
-        let shared = shared.map(|shared| Sections::read(shared, None));
-        program.has_section(".debug_info").then(|| WholeUnits { own: Sections::read_with_lines(program), shared })
+    /// Opens the debug information of a program. `None` if there is none.
+    pub fn read(source: UnitSource<'_, 'a>) -> Option<Self> {
+        let UnitSource { program, paths, shared, files, mapped } = source;
+        if !program.has_section(".debug_info") {
+            return None;
+        }
+        let packages = paths.iter().flat_map(|path| files.packages(path, program)).collect();
+        let (own, shared) = (Sections::read_in_files(program), shared.map(Sections::read_in_files));
+        Some(WholeUnits { own, shared, files, packages, mapped })
     }
 
     /// Does something with each unit that has code. One that can't be read is passed over, and counted in the result.
     pub fn each<E>(&self, mut take: impl FnMut(WholeUnit) -> Result<(), E>) -> Result<usize, E> {
+        let mut memory = Memory { units: self, given_back: 0 };
         let info = match self.own.dwarf(self.shared.as_ref()) {
-            Some(dwarf) => Info::of(dwarf),
+            Some(dwarf) => Info::of_each(dwarf, |header| memory.give_back(unit_begin(header))),
             None => return Ok(0),
         };
         let shared = self.shared.as_ref().and_then(|shared| Some(Info::of(shared.dwarf(None)?)));
         let search = Search { info, shared, lacks: AtomicBool::new(false) };
+        let packages = self
+            .packages
+            .iter()
+            .filter_map(|(path, bytes)| Some(Rc::new(Package::read(path.clone(), bytes, self.files.unpacked())?)));
+        let packages: Vec<_> = packages.collect();
+        memory.given_back = 0;
         let mut unread = 0;
-        for index in 0..search.info.headers.len() {
-            if !is_unit_with_code(&search.info.headers[index]) {
-                continue;
-            }
-            match Reader::new(&search).whole_unit(index) {
+        for header in search.info.headers.iter().filter(|header| is_unit_with_code(header)) {
+            match self.whole_unit(&search, *header, &packages) {
                 Ok(unit) => take(unit)?,
                 Err(_) => unread += 1,
             }
+            memory.give_back(unit_begin(header));
         }
         Ok(unread)
     }
-}
 
-impl<'s> Reader<'_, 's> {
+    /// Gives back the memory of what was read of the files. What is read again is read from these.
+    fn give_back(&self) {
+        let mapped = self.mapped.iter().copied().chain(self.packages.iter().map(|(_, bytes)| *bytes));
+        let sections = [Some(&self.own), self.shared.as_ref()].into_iter().flatten();
+        mapped.chain(sections.flat_map(Sections::mapped)).for_each(|bytes| bytes.give_back(0..bytes.len()));
+    }
+
     /// All functions and lines of a unit.
-    fn whole_unit(&mut self, index: usize) -> Result<WholeUnit, Error> {
-        let info = self.own_info();
-        let header = *info.headers.get(index).ok_or(Error::MissingUnitDie)?;
-        let unit = Rc::new(info.dwarf.unit(header)?);
-        debug_assert_eq!(unit_begin(&unit.header), unit_begin(&header));
-        let mut whole = WholeUnit { lines: lines(&unit), is_split: unit.dwo_id.is_some(), ..WholeUnit::default() };
-        for line in &whole.lines {
-            path_of_file(&mut whole.files, &info.dwarf, &unit, line.file);
+    fn whole_unit<'s>(
+        &'s self,
+        search: &Search<'s>,
+        header: UnitHeader<Slice<'s>>,
+        packages: &[Rc<Package<'s>>],
+    ) -> Result<WholeUnit, Error> {
+        let dwarf = &search.info.dwarf;
+        let unit = Rc::new(dwarf.unit(header)?);
+        let mut whole = WholeUnit { lines: lines(&unit), ..WholeUnit::default() };
+        let skeleton = Skeleton { dwarf, unit: Rc::clone(&unit) };
+        let split = unit.dwo_id.and_then(|_| skeleton.file_name());
+        match split.as_ref().and_then(|_| self.split_functions(&skeleton, packages)) {
+            Some(functions) => whole.functions = functions,
+            // Some compilers leave the functions here, too.
+            None => (whole.functions, whole.missing) = (Reader::new(search).all_functions(&unit)?, split),
         }
-        whole.functions = self.all_functions(&unit)?;
         let calls = whole.functions.iter().flat_map(|function| &function.inlined);
-        for file in calls.filter_map(|call| call.call_file) {
-            path_of_file(&mut whole.files, &info.dwarf, &unit, file);
-        }
+        let files = calls.filter_map(|call| call.call_file).chain(whole.lines.iter().map(|line| line.file));
+        files.for_each(|file| drop(path_of_file(&mut whole.files, dwarf, &unit, file)));
         Ok(whole)
     }
 
+    /// The functions of a unit that are in a file of its own or in a package. `None` if neither is there.
+    fn split_functions<'s>(
+        &'s self,
+        skeleton: &Skeleton<'_, 's>,
+        packages: &[Rc<Package<'s>>],
+    ) -> Option<Vec<UnitFunction>> {
+        // The file is closed before the next one is opened.
+        let files = self.files.emptied();
+        let own = SplitFile::own(skeleton, &files).and_then(|split| functions_of_file(&split));
+        own.or_else(|| functions_of_file(&SplitFile::packed(skeleton, self.files, packages)?))
+    }
+}
+
+/// The memory that files take which are mapped.
+struct Memory<'w, 'a> {
+    units: &'w WholeUnits<'a>,
+    /// The offset of the unit after which it was given back.
+    given_back: usize,
+}
+
+impl Memory<'_, '_> {
+    /// Gives it back, if the unit at this offset is far enough from the last one.
+    fn give_back(&mut self, offset: usize) {
+        if offset.saturating_sub(self.given_back) >= GIVEN_BACK {
+            self.given_back = offset;
+            self.units.give_back();
+        }
+    }
+}
+
+/// The functions in a file that has the rest of a unit. `None` if they can't be read.
+fn functions_of_file(split: &SplitFile<'_>) -> Option<Vec<UnitFunction>> {
+    let info = Info::of(split.dwarf(&SPLIT).ok()?);
+    let search = Search { info, shared: None, lacks: AtomicBool::new(false) };
+    let units = search.info.headers.iter().filter(|header| is_unit_with_code(header));
+    let mut units = units.filter_map(|header| search.info.dwarf.unit(*header).ok());
+    let mut unit = units.find(|unit| unit.dwo_id == split.skeleton.dwo_id)?;
+    unit.copy_relocated_attributes(&split.skeleton);
+    Reader::new(&search).all_functions(&Rc::new(unit)).ok()
+}
+
+impl<'s> Reader<'_, 's> {
+    /// All functions of a unit.
     fn all_functions(&mut self, unit: &Rc<Unit<Slice<'s>>>) -> Result<Vec<UnitFunction>, Error> {
         let mut found = Vec::new();
         let mut entries = unit.entries_raw(None)?;

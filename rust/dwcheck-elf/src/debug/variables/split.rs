@@ -87,11 +87,11 @@ impl<'a> Variables<'a> {
 
     /// The name of the file that has the rest of a unit, by the unit's index.
     pub(super) fn split_name(&self, index: usize) -> Option<String> {
-        self.units.root(index)?.split_file()
+        self.units.root(index)?.skeleton().file_name()
     }
 
     fn open_split(&self, index: usize) -> Option<Variables<'a>> {
-        let split = SplitFile::open(&self.units.root(index)?, self.files, &self.packages)?;
+        let split = SplitFile::open(&self.units.root(index)?.skeleton(), self.files, &self.packages)?;
         let (units, loclists) = (split.units(&NEEDED)?, split.loclists().ok()?);
         let functions = FunctionIndex::of_split(self.functions.ranges_of(index));
         let (target, machine, files) = (self.target, self.machine, self.files);

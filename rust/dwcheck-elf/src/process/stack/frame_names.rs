@@ -7,6 +7,7 @@ use crate::elf::debug_files::{build_id_hex, DebugFiles};
 use crate::elf::demangle::{raw_name, shown_name, without_version, STUB};
 use crate::elf::function_offset::FunctionOffset;
 use crate::elf::functions::Functions;
+use crate::elf::mapped::Bytes;
 use crate::elf::program::Program;
 use rustc_hash::FxHashMap;
 use std::path::{Path, PathBuf};
@@ -76,7 +77,7 @@ enum Debug<'a> {
     /// Nothing.
     None,
     /// All that there is, which is read when it is asked for.
-    Lines(Lines<'a>),
+    Lines(Box<Lines<'a>>),
     /// The names of the functions at some addresses, the innermost first.
     Functions(FxHashMap<u64, inlined::Functions>),
 }
@@ -111,20 +112,33 @@ impl Default for NameOptions {
     }
 }
 
+/// A separate file of debug information.
+struct Separate<'a> {
+    path: PathBuf,
+    bytes: &'a Bytes,
+    program: Program<'a>,
+}
+
 /// A file, and its separate file of debug information.
 struct Files<'p, 'a> {
     path: &'p Path,
     program: Program<'a>,
-    debug: Option<(PathBuf, Program<'a>)>,
+    debug: Option<Separate<'a>>,
     /// The files of debug information that aren't used, and why.
     problems: Vec<(PathBuf, String)>,
+}
+
+impl<'a> Separate<'a> {
+    fn read((path, bytes): (PathBuf, &'a Bytes)) -> Option<Self> {
+        Some(Separate { path, bytes, program: Program::read(bytes).ok()? })
+    }
 }
 
 impl<'p, 'a> Files<'p, 'a> {
     fn open(path: &'p Path, bytes: &'a [u8], debug_files: &'a DebugFiles) -> Option<Self> {
         let program = Program::read(bytes).ok()?;
         let (debug, problems) = match debug_files.find(path, &program) {
-            Ok(debug) => (debug.and_then(|(path, bytes)| Some((path, Program::read(bytes).ok()?))), Vec::new()),
+            Ok(debug) => (debug.and_then(Separate::read), Vec::new()),
             Err((path, why)) => (None, vec![(path, why.to_string())]),
         };
         Some(Files { path, program, debug, problems })
@@ -133,7 +147,7 @@ impl<'p, 'a> Files<'p, 'a> {
     /// The file that has the debug information, and its path.
     fn source(&self) -> (&Path, &Program<'a>) {
         let separate = self.debug.as_ref().filter(|_| !self.program.has_section(".debug_info"));
-        separate.map_or((self.path, &self.program), |(path, debug)| (path, debug))
+        separate.map_or((self.path, &self.program), |separate| (&separate.path, &separate.program))
     }
 
     /// The file that has what several files of debug information share. If it isn't there, that is one of the problems.
@@ -155,7 +169,7 @@ impl<'p, 'a> Files<'p, 'a> {
         Names {
             build_id: self.program.build_id().map(build_id_hex),
             functions: match &self.debug {
-                Some((_, debug)) => own.with(debug.functions()),
+                Some(separate) => own.with(separate.program.functions()),
                 None => own,
             },
             debug: Debug::None,
@@ -176,8 +190,12 @@ impl<'a> Names<'a> {
             return files.symbols();
         }
         let shared = files.shared(debug_files);
-        let lines = Lines::read(files.source().1, shared.as_ref(), debug_files.unpacked());
-        Names { debug: lines.map_or(Debug::None, Debug::Lines), ..files.symbols() }
+        let lines = Lines::read(files.source().1, shared.as_ref(), debug_files);
+        let names =
+            Names { debug: lines.map_or(Debug::None, |lines| Debug::Lines(Box::new(lines))), ..files.symbols() };
+        // What is compressed in it isn't read again.
+        files.debug.iter().for_each(|separate| separate.bytes.give_back(0..separate.bytes.len()));
+        names
     }
 
     /// The same for addresses that are known beforehand, ascending, and without lines. This takes less time.

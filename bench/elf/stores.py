@@ -1,0 +1,113 @@
+#!/usr/bin/env python3
+"""Measures runs with a store: how long a second run takes, what several workers take, and what is left of workers that
+are killed.
+
+    bench/elf/stores.py DWCHECK_ELF PATH [--command survey] [--workers 4] [--kills 100]
+
+The second run takes what the store has. N workers take a shard each, with one thread and a store of their own; the
+stores are then joined, and have to give the export of one whole run. Then workers on one store are killed at random
+moments, and after a last run that isn't killed, its export has to be the same, too. Seconds of processors don't depend
+on what else the machine does, as those of the clock do.
+"""
+import argparse
+import os
+import pathlib
+import random
+import subprocess
+import sys
+import tempfile
+import time
+
+
+class Run:
+    """A process that runs, and what it took: seconds of the clock and of processors, and its largest memory."""
+
+    def __init__(self, words):
+        self.begun = time.monotonic()
+        self.process = subprocess.Popen(words, stdout=subprocess.DEVNULL, stderr=subprocess.DEVNULL)
+
+    def end(self):
+        _, status, used = os.wait4(self.process.pid, 0)
+        self.process.returncode = os.waitstatus_to_exitcode(status)
+        self.clock = time.monotonic() - self.begun
+        self.processors = used.ru_utime + used.ru_stime
+        self.megabytes = used.ru_maxrss / 1024
+        return self
+
+
+def export(program, store):
+    """What a store has, in an order of its own."""
+    return subprocess.run([program, "store", "export", store], check=True, capture_output=True).stdout
+
+
+def second_run(words, store):
+    """The first run and the second one."""
+    runs = [Run([*words, "--store", store]).end() for _ in range(2)]
+    for name, run in zip(("first", "second"), runs):
+        print(f"{name}: {run.clock:.2f} s, {run.processors:.2f} s of processors, {run.megabytes:.0f} MB")
+    print(f"second / first: {runs[1].clock / runs[0].clock:.4f} by the clock, "
+          f"{runs[1].processors / runs[0].processors:.4f} of processors", flush=True)
+
+
+def shards(program, words, folder, count):
+    """Runs a worker for each shard. Returns the seconds of the clock, and the store of all of them."""
+    parts = [str(folder / f"{count}-{number}") for number in range(1, count + 1)]
+    begun = time.monotonic()
+    runs = [Run([*words, "--jobs", "1", "--store", part, "--shard", f"{number}/{count}"])
+            for number, part in enumerate(parts, 1)]
+    runs = [run.end() for run in runs]
+    clock = time.monotonic() - begun
+    processors = sum(run.processors for run in runs)
+    print(f"{count} workers: {clock:.2f} s, {processors:.2f} s of processors, "
+          f"at most {max(run.megabytes for run in runs):.0f} MB each", flush=True)
+    joined = str(folder / f"{count}-joined")
+    subprocess.run([program, "store", "merge", joined, *parts], check=True)
+    return clock, processors, joined
+
+
+def killed(program, words, store, kills, longest):
+    """Kills workers of one store, and lets the last one end."""
+    ended = 0
+    for _ in range(kills):
+        run = Run([*words, "--store", store])
+        time.sleep(random.uniform(0, longest))
+        run.process.kill()
+        ended += run.end().process.returncode >= 0
+    Run([*words, "--store", store]).end()
+    print(f"{kills} workers killed, of which {ended} had ended before", flush=True)
+    check = subprocess.run(["sqlite3", store, "PRAGMA integrity_check; PRAGMA foreign_key_check"], capture_output=True, text=True)
+    return export(program, store), check.stdout.strip()
+
+
+def main():
+    parser = argparse.ArgumentParser(description=__doc__, formatter_class=argparse.RawDescriptionHelpFormatter)
+    parser.add_argument("program")
+    parser.add_argument("path")
+    parser.add_argument("--command", default="lint")
+    parser.add_argument("--workers", type=int, default=os.cpu_count())
+    parser.add_argument("--kills", type=int, default=100)
+    arguments = parser.parse_args()
+    program, words = arguments.program, [arguments.program, arguments.command, arguments.path]
+    wrong = []
+    with tempfile.TemporaryDirectory() as name:
+        folder = pathlib.Path(name)
+        whole = str(folder / "whole")
+        second_run(words, whole)
+        expected = export(program, whole)
+        print(f"export: {len(expected)} bytes, {len(expected.splitlines())} answers", flush=True)
+        one, one_processors, joined = shards(program, words, folder, 1)
+        wrong += ["one worker's export"] * (export(program, joined) != expected)
+        if arguments.workers > 1:
+            many, many_processors, joined = shards(program, words, folder, arguments.workers)
+            wrong += ["the workers' export"] * (export(program, joined) != expected)
+            print(f"rate of {arguments.workers} workers: {one / many:.2f} of one's by the clock; "
+                  f"{arguments.workers * one_processors / many_processors:.2f} if each had a processor of its own", flush=True)
+        if arguments.kills:
+            found, check = killed(program, words, str(folder / "killed"), arguments.kills, one / arguments.kills * 2)
+            wrong += ["the export after the kills"] * (found != expected) + [f"the store: {check}"] * (check != "ok")
+    print("FAILED: " + ", ".join(wrong) if wrong else "all exports are the same")
+    return 1 if wrong else 0
+
+
+if __name__ == "__main__":
+    sys.exit(main())
