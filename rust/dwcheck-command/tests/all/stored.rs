@@ -200,7 +200,7 @@ fn a_store_that_cannot_be_used_is_named_in_a_line() {
     let folder = folder("store-bad");
     dwcheck_elf(&folder, "survey --store newer all");
     sqlite3(&folder, "newer", "PRAGMA user_version = 9");
-    folder.write("noise", (0..5_000_u32).map(|one| (one * one >> 5) as u8).collect::<Vec<_>>());
+    folder.write("noise", (0..5_000_u32).map(|one| ((one * one) >> 5) as u8).collect::<Vec<_>>());
     let newer = "its schema has version 9, and this dwcheck-elf knows versions up to 1";
     for (store, why) in [("newer", newer), ("noise", "not a store of dwcheck-elf")] {
         let words = ["survey --store {} all", "store export {}", "store merge into {}", "store diff {} {}"];
