@@ -1,10 +1,10 @@
 #!/bin/bash
 # Builds the tests with the static library build/libdwcheck.a, or the one that LIBRARY names, and runs
 # them: those of readers.c, frozen.c, cursor.c, cache.c, dl.c, own_rows.c, both.c and changed.c; those of
-# in_place.c and kept_rows.c, plainly, with sanitizers and under valgrind; those of wrapper.cc, as C++17,
-# as C++20 and over the module; and those of cases.c while allocations fail in turn, with sanitizers, and
-# under valgrind. Before that, the headers are compiled as C11, C17 and C++17; passing a pointer of a wrong
-# type must be an error.
+# in_place.c, kept_rows.c and kept_rows_of_stacks.c, plainly, with sanitizers and under valgrind; those of
+# wrapper.cc, as C++17, as C++20 and over the module; and those of cases.c while allocations fail in turn,
+# with sanitizers, and under valgrind. Before that, the headers are compiled as C11, C17 and C++17; passing
+# a pointer of a wrong type must be an error.
 # Prints a line `ok NAME` or `FAILED NAME` for each, and ends with status 1 if one failed.
 set -u
 top=$(dirname "$(dirname "$(dirname "$(realpath "$0")")")")
@@ -55,18 +55,31 @@ in_place_under_valgrind() {
     build_in_place && valgrind -q --error-exitcode=1 "$out/in_place" "$(cc -print-file-name=libc.so.6)" 37
 }
 
-build_kept_rows() { # FLAG..: builds the tests of walks with kept rows, and a library that calls back
-    build_called &&
-        cc -std=gnu11 -D_GNU_SOURCE $strict -O2 -g "$@" "$top/c/tests/kept_rows.c" "$library" -Wl,--wrap=malloc,--wrap=realloc \
-            -o "$out/kept_rows" -pthread -ldl
+build_kept_rows() { # FLAG..: builds the tests of walks with kept rows, which count requests for memory
+    cc -std=gnu11 -D_GNU_SOURCE $strict -O2 -g "$@" "$top/c/tests/kept_rows.c" "$library" -Wl,--wrap=malloc,--wrap=realloc \
+        -o "$out/kept_rows"
 }
 
 kept_rows() { # FLAG..: builds these tests and runs them
-    build_kept_rows "$@" && "$out/kept_rows" "$out/called.so"
+    build_kept_rows "$@" && "$out/kept_rows"
 }
 
 kept_rows_under_valgrind() {
-    build_kept_rows && valgrind -q --error-exitcode=1 "$out/kept_rows" "$out/called.so" 1000
+    build_kept_rows && valgrind -q --error-exitcode=1 "$out/kept_rows" 1000
+}
+
+build_kept_rows_of_stacks() { # FLAG..: builds the tests of such walks up its own stacks, and a library that calls back
+    build_called &&
+        cc -std=gnu11 -D_GNU_SOURCE $strict -O2 -g "$@" "$top/c/tests/kept_rows_of_stacks.c" "$library" \
+            -o "$out/kept_rows_of_stacks" -pthread -ldl
+}
+
+kept_rows_of_stacks() { # FLAG..: builds these tests and runs them
+    build_kept_rows_of_stacks "$@" && "$out/kept_rows_of_stacks" "$out/called.so"
+}
+
+kept_rows_of_stacks_under_valgrind() {
+    build_kept_rows_of_stacks && valgrind -q --error-exitcode=1 "$out/kept_rows_of_stacks" "$out/called.so"
 }
 
 compile_module() { # OBJECT COMMAND..: compiles the module of LLVM as the kit does, and takes its code apart
@@ -212,6 +225,9 @@ test_of "the same under valgrind" in_place_under_valgrind
 test_of "walks with kept rows" kept_rows
 test_of "walks with kept rows, with ASan and UBSan" kept_rows -fsanitize=address,undefined -fno-sanitize-recover=all
 test_of "walks with kept rows under valgrind" kept_rows_under_valgrind
+test_of "walks with kept rows up own stacks" kept_rows_of_stacks
+test_of "walks with kept rows up own stacks, with ASan and UBSan" kept_rows_of_stacks -fsanitize=address,undefined -fno-sanitize-recover=all
+test_of "walks with kept rows up own stacks under valgrind" kept_rows_of_stacks_under_valgrind
 test_of "stacks of dwcheck-dl are glibc's, while libraries come and go" dl
 test_of "rows are given to the code of a module, which stays the same" rows_of_modules
 test_of "a module without attributes is compiled" modules_without_attributes
