@@ -28,11 +28,17 @@ use std::fmt;
 /// loop {
 ///     let (more, stop) = rows.walk(!0, &mut place, &[stack], &mut addresses[count..]);
 ///     count += more;
-///     // The row of the frame that the walk is at is missing: fill it in, and go on.
-///     let (KeptStop::Missing, Some(address)) = (stop, place.looked_up()) else { break };
-///     let Some((slot, module)) = module_of(address) else { break };
-///     if rows.fill(slot, &module, address) != Ok(Filled::Kept) {
-///         break; // no row, or one that can't be kept
+///     // The row of the frame that the walk is at may be missing: fill it in, and go on.
+///     let missing = match stop {
+///         KeptStop::Missing => place.looked_up(),
+///         _ => break,
+///     };
+///     let filled = missing.and_then(|address| {
+///         let (slot, module) = module_of(address)?;
+///         rows.fill(slot, &module, address).ok()
+///     });
+///     if filled != Some(Filled::Kept) {
+///         break; // no module, no row, or one that can't be kept
 ///     }
 /// }
 /// # count
