@@ -18,7 +18,6 @@ import gzip
 import json
 import os
 import random
-import resource
 import shutil
 import subprocess
 import sys
@@ -56,9 +55,10 @@ ODD = [0, 1, 0x7F, 0x80, 0xFF, 0xFE, 0x10, 0x9B, 0x2E, 0x0D]
 def run(words, folder, statuses, timeout=60):
     """Runs a command. Returns the finished run, and a text that says what is wrong with how it
     ended, or None. The run is None if it took too long."""
-    limit = lambda: resource.setrlimit(resource.RLIMIT_AS, (MEMORY, MEMORY))
+    # By prlimit: a preexec_fn may wait forever for a lock that another thread had when the child was made.
+    words = ["prlimit", f"--as={MEMORY}", *words]
     try:
-        ran = subprocess.run(words, cwd=folder, capture_output=True, timeout=timeout, preexec_fn=limit)
+        ran = subprocess.run(words, cwd=folder, capture_output=True, timeout=timeout)
     except subprocess.TimeoutExpired:
         return None, "no end"
     if ran.returncode not in statuses or b"panicked" in ran.stderr:

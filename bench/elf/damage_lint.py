@@ -13,7 +13,6 @@ first that fails is kept.
 import argparse
 import os
 import random
-import resource
 import shutil
 import subprocess
 import sys
@@ -86,10 +85,10 @@ def changed(content, places, chance):
 
 def failure(program, path):
     """What is wrong with how a run ended, or None."""
-    limit = lambda: resource.setrlimit(resource.RLIMIT_AS, (MEMORY, MEMORY))
+    # By prlimit: a preexec_fn may wait forever for a lock that another thread had when the child was made.
+    words = ["prlimit", f"--as={MEMORY}", program, "lint", "--jobs", "1", "--private", path]
     try:
-        words = [program, "lint", "--jobs", "1", "--private", path]
-        ran = subprocess.run(words, capture_output=True, timeout=120, preexec_fn=limit)
+        ran = subprocess.run(words, capture_output=True, timeout=120)
     except subprocess.TimeoutExpired:
         return "no end"
     if ran.returncode not in (0, 1, 3) or b"panicked" in ran.stderr:
