@@ -225,7 +225,10 @@ def minidumps(program, originals, work, seed, count):
     numbers = random.Random(seed)
     ranges = {name: streams(original) for name, original in originals.items()}
     problems, came = [], Counter()
-    path = os.path.join(work, f"minidump-{seed}")
+    # Not in the folder of --path, whose files must not be cut while they are read.
+    changed_files = f"{work}-changed"
+    os.makedirs(changed_files, exist_ok=True)
+    path = os.path.join(changed_files, f"minidump-{seed}")
     for number in range(count):
         name = numbers.choice(sorted(originals))
         with open(path, "wb") as file:
@@ -311,9 +314,10 @@ def main():
                 problems += wrong
         print(f"{kind}: {words.count} files: {dict(came)}")
     print("\n".join(problems[:20]))
-    print(f"{len(problems)} problems" + (f", in {work}" if problems else ""))
+    print(f"{len(problems)} problems" + (f", in {work}*" if problems else ""))
     if not problems:
         shutil.rmtree(work)
+        shutil.rmtree(f"{work}-changed", ignore_errors=True)
     return 1 if problems else 0
 
 
