@@ -1,5 +1,8 @@
 //! Finds the ELF files in folders, and the packages with such files, each once.
 
+mod folders;
+
+use self::folders::{entries_below, Entries, Found, Id, Kind};
 use crate::packages::is_input_package;
 use dwcheck_elf::mapped::Bytes;
 use dwcheck_elf::other_file::OtherFile;
@@ -9,10 +12,9 @@ use dwcheck_store::{Digest, Listing, Place, SeenFile, Shard, Stamp, Stamps};
 use rayon::prelude::*;
 use std::collections::hash_map::RandomState;
 use std::collections::{HashMap, HashSet};
-use std::fs::{File, Metadata};
+use std::fs::File;
 use std::hash::{BuildHasher, Hasher};
 use std::io::{self, Read};
-use std::os::unix::fs::MetadataExt;
 use std::path::{Path, PathBuf};
 use std::time::SystemTime;
 
@@ -95,7 +97,9 @@ enum Taken {
 #[derive(Default)]
 struct Walk {
     found: Vec<Candidate>,
-    seen: HashSet<(u64, u64)>,
+    seen: HashSet<Id>,
+    /// What is in the folders that weren't gone through yet.
+    entries: Entries,
     links: usize,
     unread: Vec<(PathBuf, String)>,
     /// Whether a store has to know the paths from the root on.
@@ -229,26 +233,31 @@ impl Walk {
             self.named = path.to_path_buf();
             self.roots.push(path.canonicalize().unwrap_or_else(|_| path.to_path_buf()));
         }
-        let checked = path.metadata().and_then(|metadata| Ok((why_not_elf(path, &metadata)?, metadata)));
-        match checked {
-            Ok((None, metadata)) => self.add(path.to_path_buf(), &metadata),
+        let found = path.metadata().map(|metadata| Found::of(&metadata));
+        match found.and_then(|found| Ok((why_not_elf(path, found.kind)?, found))) {
+            Ok((None, found)) => {
+                if found.kind == Kind::Folder && !self.seen.contains(&found.id) {
+                    self.entries = entries_below(path, found.id);
+                }
+                self.add(path.to_path_buf(), &found);
+            }
             Ok((Some(why), _)) => self.unread.push((path.to_path_buf(), why)),
             Err(error) => self.unread.push((path.to_path_buf(), error.to_string())),
         }
     }
 
-    fn add(&mut self, path: PathBuf, metadata: &Metadata) {
-        let has_content = metadata.is_file() && metadata.len() > 0;
-        if !metadata.is_dir() && !has_content {
+    fn add(&mut self, path: PathBuf, found: &Found) {
+        let is_file = found.kind == Kind::File;
+        if found.kind == Kind::Other || is_file && found.size == 0 {
             return;
         }
-        if !self.seen.insert((metadata.dev(), metadata.ino())) {
-            self.links += usize::from(metadata.is_file() && is_elf_file(&path).unwrap_or(false));
-        } else if metadata.is_dir() {
-            self.folder(&path);
-        } else {
+        if !self.seen.insert(found.id) {
+            self.links += usize::from(is_file && is_elf_file(&path).unwrap_or(false));
+        } else if is_file {
             let whole_path = self.whole_path(&path);
-            self.found.push(Candidate { path, size: metadata.len(), stamp: Stamp::of(metadata), whole_path });
+            self.found.push(Candidate { path, size: found.size, stamp: found.stamp, whole_path });
+        } else {
+            self.folder(&path, found.id);
         }
     }
 
@@ -263,17 +272,17 @@ impl Walk {
     }
 
     /// Goes through a folder and the folders below it, in order of names.
-    fn folder(&mut self, path: &Path) {
-        let listed = path.read_dir().and_then(|entries| entries.collect::<io::Result<Vec<_>>>());
-        let mut entries = match listed {
-            Ok(entries) => entries,
-            Err(error) => return self.unread.push((path.to_path_buf(), error.to_string())),
+    fn folder(&mut self, path: &Path, id: Id) {
+        let entries = match self.entries.remove(&id) {
+            Some(Ok(entries)) => entries,
+            Some(Err(error)) => return self.unread.push((path.to_path_buf(), error.to_string())),
+            None => return,
         };
-        entries.sort_by_key(|entry| entry.file_name());
         for entry in entries {
-            match entry.metadata() {
-                Ok(metadata) => self.add(entry.path(), &metadata),
-                Err(error) => self.unread.push((entry.path(), error.to_string())),
+            let path = path.join(&entry.name);
+            match entry.found {
+                Ok(found) => self.add(path, &found),
+                Err(error) => self.unread.push((path, error.to_string())),
             }
         }
     }
@@ -284,12 +293,11 @@ fn is_elf_file(path: &Path) -> io::Result<bool> {
 }
 
 /// Why a file that was named isn't an ELF file. `None` if it is one, or a folder.
-fn why_not_elf(path: &Path, metadata: &Metadata) -> io::Result<Option<String>> {
-    if metadata.is_dir() {
-        return Ok(None);
-    }
-    if !metadata.is_file() {
-        return Ok(Some("neither a regular file nor a folder".to_string()));
+fn why_not_elf(path: &Path, kind: Kind) -> io::Result<Option<String>> {
+    match kind {
+        Kind::Folder => return Ok(None),
+        Kind::Other => return Ok(Some("neither a regular file nor a folder".to_string())),
+        Kind::File => {}
     }
     let start = first_bytes(path)?;
     if kind_of_file(&start).is_some() {
