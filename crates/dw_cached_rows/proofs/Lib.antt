@@ -1,4 +1,5 @@
 pub mod Entries
+pub mod CompactPacking
 pub mod Packing
 pub mod Rules
 pub mod Steps

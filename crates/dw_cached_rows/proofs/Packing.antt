@@ -1,7 +1,10 @@
 -- The rules of a row that are taken one after the other are those of the packed row.
-use Rattle.std.proofs.Common.{◌≡◌, ℕ, ℤ, negsuc, List, [], ◌∷◌, ◌++◌, ap, ◌∙◌}
-use Rattle.dw_rules.specs.Rules.{Rule, offset}
-use Rattle.dw_cached_rows.specs.PackedRows.{saved_rule}
+use Rattle.std.proofs.Common.{◌≡◌, ◌⊎◌, ℕ, ℤ, Bool, false, inl, inr, negsuc, List, [], ◌∷◌, ◌++◌, ap, sym, ◌∙◌}
+use Rattle.dw_rules.specs.Rules.{Row, Rule, offset}
+use Rattle.dw_cached_rows.specs.declared.packed_row.PackedRow.{PackedRow}
+use Rattle.dw_cached_rows.specs.declared.packed_row.TheConstants.{RETURN_ADDRESS}
+use Rattle.dw_cached_rows.specs.CachedRows.{Holds, IsKept, IsPutIn}
+use Rattle.dw_cached_rows.specs.PackedRows.{IsRowOf, saved_rule}
 
 pub all-taken : (a b c d e f : ℤ) (r0 r1 r2 r3 r4 r5 r6 : List (ℕ × Rule)) → r0 ≡ saved_rule 3 a ++ r1 → r1 ≡ saved_rule 6 b ++ r2
     → r2 ≡ saved_rule 12 c ++ r3 → r3 ≡ saved_rule 13 d ++ r4 → r4 ≡ saved_rule 14 e ++ r5 → r5 ≡ saved_rule 15 f ++ r6
@@ -15,3 +18,28 @@ all-taken a b c d e f r0 r1 r2 r3 r4 r5 r6 one two three four five six last =
     (four ∙ ap (λ (l : List (ℕ × Rule)). saved_rule 13 d ++ l)
     (five ∙ ap (λ (l : List (ℕ × Rule)). saved_rule 14 e ++ l)
     (six ∙ ap (λ (l : List (ℕ × Rule)). saved_rule 15 f ++ l) last)))))
+
+-- ---- a row that is put in
+
+-- A row for which the entry stands that was put in has the rules of the row that was packed.
+pub kept-of : (slot address column : ℕ) (row : Row) (is_signal : Bool) (entry : PackedRow) (other at : ℕ) (held : Row)
+    → (entry.form ≡ 0) ⊎ ((column ≡ RETURN_ADDRESS) × (is_signal ≡ false) × IsRowOf entry row)
+    → IsPutIn slot address entry other at held → IsKept slot address row column is_signal other at held
+kept-of slot address column row is_signal entry other at held (inl zero) put = absurd (put.is.some zero)
+kept-of slot address column row is_signal entry other at held (inr packed) put = record {
+  slot_is = put.slot_is;
+  address_is = put.address_is;
+  rules = record { cfa = put.is.cfa ∙ sym packed.2.cfa; rules = put.is.rules ∙ sym packed.2.rules };
+  column_is = packed.0;
+  called = packed.1;
+}
+
+pub still-of : (slot address column : ℕ) (row : Row) (is_signal : Bool) (entry : PackedRow) (old new : List PackedRow)
+    → (entry.form ≡ 0) ⊎ ((column ≡ RETURN_ADDRESS) × (is_signal ≡ false) × IsRowOf entry row)
+    → ((other at : ℕ) (held : Row) → Holds new other at held → Holds old other at held ⊎ IsPutIn slot address entry other at held)
+    → (other at : ℕ) (held : Row) → Holds new other at held
+    → Holds old other at held ⊎ IsKept slot address row column is_signal other at held
+still-of slot address column row is_signal entry old new packed only other at held holds = elim (only other at held holds) [
+  | inl before ↦ inl before
+  | inr put ↦ inr (kept-of slot address column row is_signal entry other at held packed put)
+]

@@ -102,6 +102,12 @@ pub record IsKept (slot address : ℕ) (row : Row) (column : ℕ) (is_signal : B
   pub column_is : column ≡ RETURN_ADDRESS
   pub called : is_signal ≡ false
 
+-- The row that is held is one for which this entry stands, for this slot and this address.
+pub record IsPutIn (slot address : ℕ) (entry : PackedRow) (other at : ℕ) (held : Row) : Type 0 where
+  pub slot_is : other ≡ slot
+  pub address_is : at ≡ address
+  pub is : IsRowOf entry held
+
 -- Each row has the rules of the row that its module has at the address. `finds` says which rows the
 -- look-up of an address may find in the module with a slot.
 abbrev pub AreRowsOf : (ℕ → ℕ → Option (Row × ℕ) → Type 0) → List PackedRow → Type 0

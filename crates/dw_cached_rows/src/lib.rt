@@ -5,6 +5,7 @@
 mod cached_rows;
 mod keep;
 pub mod laws;
+mod packed_compact;
 mod packed_row;
 mod register_place;
 mod register_walk;

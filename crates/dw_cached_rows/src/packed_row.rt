@@ -86,7 +86,7 @@ impl PackedRow {
 }
 
 /// An offset in words of 8 bytes. None if it is 0, isn't a multiple of 8, or is too large.
-fn words_of(offset: i64) -> Option<i8>
+pub(crate) fn words_of(offset: i64) -> Option<i8>
     ensures { IfSome result (λ words. (words ≢ pos 0) × (offset ≡ words *ℤ pos 8)) }
 {
     if offset == 0 || offset % 8 != 0 {
@@ -140,7 +140,7 @@ fn is_undefined_alone(row: &UnwindRow<'_, '_>) -> bool
 }
 
 /// The row of no address whose CFA is this.
-fn row_with_cfa(cfa: CfaRule<'_>) -> Option<PackedRow>
+pub(crate) fn row_with_cfa(cfa: CfaRule<'_>) -> Option<PackedRow>
     ensures cfa { IfSome result (λ row. cfa_rule_of cfa.entry
         ≡ register_and_offset row.form row.cfa_offset) }
     ensures form { IfSome result (λ row. (row.form ≢ 0) × (row.form < LAST)) }

@@ -9,6 +9,8 @@ pub mod InPlace
 pub mod LookUps
 -- a look-up without a table, by going through the records
 pub mod Scans
+-- look-ups of rows that are as compilers write nearly all rows
+pub mod CompactRows
 -- ---- What values of the code's types stand for.
 pub mod Views
 -- what a look-up in place keeps for the next one

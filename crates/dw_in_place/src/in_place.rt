@@ -85,7 +85,7 @@ fn fde_of_record<'a>(record: EhRecord<'a>) -> Option<EhFde<'a>>
 
 /// Whether the CIE of an FDE ends where the FDE begins, or before it.
 #[inline(always)]
-fn is_after_its_cie(cie: &EhCie<'_>, fde: &FrameDescriptionEntry<'_>) -> bool
+pub(crate) fn is_after_its_cie(cie: &EhCie<'_>, fde: &FrameDescriptionEntry<'_>) -> bool
     ensures { result ≡ is_after_cie (fde_with_cie cie.now fde.now) }
 {
     cie.cie.program.end() <= fde.offset

@@ -82,3 +82,8 @@ pub record AreIn (place : RegisterPlace) (contents : ℕ → Option ℕ) : Type 
   pub r13 : contents R13 ≡ Some place.r13
   pub r14 : contents R14 ≡ Some place.r14
   pub r15 : contents R15 ≡ Some place.r15
+
+-- one of the registers that a walk keeps has no content
+abbrev pub LacksOne : (ℕ → Option ℕ) → Type 0
+LacksOne contents = (contents RSP ≡ None) ⊎ (contents RBX ≡ None) ⊎ (contents RBP ≡ None) ⊎ (contents R12 ≡ None)
+    ⊎ (contents R13 ≡ None) ⊎ (contents R14 ≡ None) ⊎ (contents R15 ≡ None)

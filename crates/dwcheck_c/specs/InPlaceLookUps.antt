@@ -9,6 +9,10 @@ use Rattle.dw_rules.specs.Rules.{Row}
 use Rattle.dw_unwind.specs.MissingPlaces.{LacksPlace}
 use Rattle.dw_unwind.specs.Modules.{as_linked}
 use Rattle.dw_eh_frame.specs.Records.{EhFde}
+use Rattle.dw_compact_rows.specs.CompactRuns.{row_of_compact}
+use Rattle.dw_eh_frame.specs.Views.{eh_fde_of}
+use Rattle.dw_in_place.specs.declared.compact.CompactAnswer.{CompactAnswer}
+use Rattle.dw_in_place.specs.declared.compact.CompactAnswer.TheVariants as answers
 use Rattle.dw_in_place.specs.InPlace.{SectionInPlace, lying, row_of_fde}
 use Rattle.dw_in_place.specs.LookUps.{fde_by_entry}
 use Rattle.dw_in_place.specs.Scans.{Scans, fde_by_place}
@@ -117,6 +121,12 @@ pub record HasRow (m : CModule) (h : CHeader) (address : ℕ) (target : Target) 
   pub target_is : section.target ≡ target
   pub is : LooksUp section table (as_linked section.target m.load_address address) (Ok (Some e))
   pub row_is : row_of_fde section.target section.bytes e (as_linked section.target m.load_address address) ≡ Some row
+
+-- what a look-up of a compact row says: this FDE has it, or there is none; or nothing is said
+abbrev pub IsLookedUpCompactly : CModule → CHeader → ℕ → Target → CompactAnswer → Type 0
+IsLookedUpCompactly m h address target (answers.Row row fde) = HasRow m h address target (eh_fde_of fde) (row_of_compact row)
+IsLookedUpCompactly m h address target answers.Nothing = IsLookedUp m h address (Ok None)
+IsLookedUpCompactly m h address target answers.Unsure = Unit {0}
 
 -- ---- what C gets
 

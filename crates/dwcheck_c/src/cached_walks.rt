@@ -1,12 +1,12 @@
 //! The C calls that keep rows for walks that recur, and walk with them.
 
-ghost use Rattle.std.specs.Prelude.{◌+◌, ◌≡◌, ◌≢◌, ◌↔◌, ◌%◌, ◌<◌, ◌≤◌, ◌⊎◌, ℕ, IfSome, List, None, Ok, Option, Err, drop, length, take, false};
+ghost use Rattle.std.specs.Prelude.{◌+◌, ◌^◌, ◌≡◌, ◌≢◌, ◌↔◌, ◌%◌, ◌<◌, ◌≤◌, ◌⊎◌, ℕ, IfSome, List, MatchOption, None, Ok, Option, Err, drop, length, take, false};
 ghost use Rattle.dw_bytes.specs.declared.fault.Fault.{Fault as Why};
 ghost use Rattle.dw_c_types.specs.Faults.{cfault_of};
 ghost use Rattle.dw_c_types.specs.Frames.{stop_number};
 ghost use Rattle.dw_c_types.specs.Machine.{byte_in};
 ghost use Rattle.dw_bytes.specs.declared.target.Target.{Target as OfTarget};
-ghost use Rattle.dw_eh_frame.specs.Records.{EhFde};
+ghost use Rattle.dw_eh_frame.specs.Records.{EhFde as Fde};
 ghost use Rattle.dw_rules.specs.Rules.{Row};
 ghost use Rattle.dw_unwind.specs.Walks.{AreFrames, Place, WalkedFrame, address_before, over_rows};
 ghost use Rattle.dwcheck_c.specs.declared.in_place.CHeader.{CHeader as Header};
@@ -15,15 +15,17 @@ ghost use Rattle.dw_eh_frame.specs.Views.{eh_fde_of};
 ghost use Rattle.dw_unwind.specs.declared.frames.Stop.{Stop as Reason};
 ghost use Rattle.dw_cached_rows.specs.CachedRows.{AreRowsOf, Holds, HoldsInSet, IsKept, IsMissing, entry_at};
 ghost use Rattle.dw_cached_rows.specs.declared.packed_row.PackedRow.{PackedRow};
+ghost use Rattle.dw_cached_rows.specs.declared.packed_row.TheConstants.{RETURN_ADDRESS};
+ghost use Rattle.dw_compact_rows.specs.CompactRuns.{row_of_compact};
 ghost use Rattle.dw_cached_rows.specs.CachedWalks.{EndsAfter, IsOther, Passes, little_64, over_cached, x86_64};
 ghost use Rattle.dw_cached_rows.specs.RegisterWalks.{EndsWithRegisters, IsOtherWith, IsWith, WalksWith, register_in};
 ghost use Rattle.dw_unwind.specs.Contents.{contents_in};
 ghost use Rattle.dwcheck_c.specs.WalkCursors.{looked_up_by, place_of};
-ghost use Rattle.dwcheck_c.specs.CachedFills.{AreIn, CanBeKept, FindsConfirmed, FindsIn, GoesOn, IsFilled, IsOfFill, end_number};
+ghost use Rattle.dwcheck_c.specs.CachedFills.{AreIn, CanBeKept, FindsConfirmed, FindsIn, GoesOn, IsFilled, IsOfFill, LacksOne, end_number};
 ghost use Rattle.dwcheck_c.specs.InPlaceLookUps.{HasRow, IsLookedUp, IsUnusable, IsUsable};
 
 use crate::cursor::{CALLER, CCursor, EXACT};
-use crate::in_place::{CHeader, FoundInPlace, look_up, no_answer};
+use crate::in_place::{CHeader, FoundInPlace, look_up, look_up_compact, no_answer};
 use crate::module::CModule;
 use dw_bytes::{AddressSize, Order, Target};
 use dw_c_types::answer::stop_code;
@@ -34,8 +36,10 @@ use dw_cached_rows::{
     CachedRows, FrameWithRegisters, R12, R13, R14, R15, RBP, RBX, RSP, RegisterPlace, SLOTS,
     StackPlace, WalkEnd,
 };
+use dw_compact_rows::CompactRow;
+use dw_eh_frame::EhFde;
 use dw_eval::Registers;
-use dw_in_place::LookUpMemory;
+use dw_in_place::{CompactAnswer, LookUpMemory};
 use dw_unwind::{RegisterFile, Stop};
 use std::alloc::Global;
 
@@ -72,7 +76,7 @@ fn keep_row(rows: &mut CachedRows, slot: u8, address: u64, found: &FoundInPlace<
         × CanBeKept found.now.target (eh_fde_of found.now.fde) }
     ensures only { (other at : ℕ) (held : Row) → Holds rows.new.rows other at held
         → Holds rows.old.rows other at held ⊎ (CanBeKept found.now.target (eh_fde_of found.now.fde)
-        × IsKept slot address found.now.row 16 false other at held) }
+        × IsKept slot address found.now.row RETURN_ADDRESS false other at held) }
     ensures dropped { result ≡ NO_PLACE → (other at : ℕ) (held : Row)
         → Holds rows.new.rows other at held → Holds rows.old.rows other at held }
     ensures codes { (result ≡ DONE) ⊎ (result ≡ NO_PLACE) }
@@ -95,6 +99,36 @@ fn keep_row(rows: &mut CachedRows, slot: u8, address: u64, found: &FoundInPlace<
     }
 }
 
+/// Keeps a compact row that was looked up.
+fn keep_compact_row(
+    rows: &mut CachedRows,
+    slot: u8,
+    address: u64,
+    target: Target,
+    row: &CompactRow,
+    fde: &EhFde<'_>,
+) -> u32
+    requires { slot < SLOTS }
+    ensures held { result ≡ DONE → HoldsInSet rows.new.rows slot address (row_of_compact row.now)
+        × CanBeKept target (eh_fde_of fde.now) }
+    ensures only { (other at : ℕ) (held : Row) → Holds rows.new.rows other at held
+        → Holds rows.old.rows other at held ⊎ (CanBeKept target (eh_fde_of fde.now)
+        × IsKept slot address (row_of_compact row.now) RETURN_ADDRESS false other at held) }
+    ensures dropped { result ≡ NO_PLACE → (other at : ℕ) (held : Row)
+        → Holds rows.new.rows other at held → Holds rows.old.rows other at held }
+    ensures codes { (result ≡ DONE) ⊎ (result ≡ NO_PLACE) }
+{
+    if target != LITTLE_64 {
+        return NO_PLACE;
+    }
+    let column = fde.cie.cie.return_address_register;
+    if rows.keep_compact(slot, address, row, column, fde.cie.augmentation.is_signal) {
+        DONE
+    } else {
+        NO_PLACE
+    }
+}
+
 /// The slot that a number of C's names.
 fn slot_of(slot: u32) -> u8
     ensures { result ≡ slot % SLOTS }
@@ -102,12 +136,9 @@ fn slot_of(slot: u32) -> u8
     (slot % u32::from(SLOTS)) as u8
 }
 
-/// Looks up `address`, an address as loaded, in the section of `module` in place, by the table of
-/// `header`, and keeps its row in `rows` for walks, as a row of the module with the slot `slot`
-/// modulo 64. The row may take the place of another one. `NO_PLACE` says that there is a row, but
-/// that it can't be kept: walks stop there, and the frame takes a step of a cursor.
-#[unsafe(no_mangle)]
-pub extern "C" fn dwcheck_rows_fill(
+/// Does what `dwcheck_rows_fill` does, by a look-up that keeps all rules. It takes up to 53 KB of stack.
+#[inline(never)]
+fn fill_with_any_row(
     alloc: Global,
     rows: &mut CachedRows,
     slot: u32,
@@ -121,7 +152,7 @@ pub extern "C" fn dwcheck_rows_fill(
     ensures only { (other at : ℕ) (held : Row) → Holds rows.new.rows other at held
         → Holds rows.old.rows other at held
         ⊎ IsOfFill module.now header.now (slot % SLOTS) address other at held }
-    ensures place { result ≡ NO_PLACE → (target : OfTarget) × (fde : EhFde) × (row : Row)
+    ensures place { result ≡ NO_PLACE → (target : OfTarget) × (fde : Fde) × (row : Row)
         × HasRow module.now header.now address target fde row }
     ensures dropped { result ≡ NO_PLACE → (other at : ℕ) (held : Row)
         → Holds rows.new.rows other at held → Holds rows.old.rows other at held }
@@ -138,6 +169,51 @@ pub extern "C" fn dwcheck_rows_fill(
     match look_up(module, header, address, &mut memory) {
         Ok(Some(found)) => keep_row(rows, slot_of(slot), address, &found),
         Ok(None) => NONE,
+        Err(why) => no_answer(why, fault),
+    }
+}
+
+/// Looks up `address`, an address as loaded, in the section of `module` in place, by the table of
+/// `header`, and keeps its row in `rows` for walks, as a row of the module with the slot `slot`
+/// modulo 64. The row may take the place of another one. `NO_PLACE` says that there is a row, but
+/// that it can't be kept: walks stop there, and the frame takes a step of a cursor. A compact row, as
+/// compilers write nearly all of them, takes 4 KB of stack.
+#[unsafe(no_mangle)]
+pub extern "C" fn dwcheck_rows_fill(
+    alloc: Global,
+    rows: &mut CachedRows,
+    slot: u32,
+    module: &CModule<'_>,
+    header: &CHeader<'_>,
+    address: u64,
+    fault: &mut CFault,
+) -> u32
+    ensures done { result ≡ DONE
+        → IsFilled module.now header.now (slot % SLOTS) address rows.new.rows }
+    ensures only { (other at : ℕ) (held : Row) → Holds rows.new.rows other at held
+        → Holds rows.old.rows other at held
+        ⊎ IsOfFill module.now header.now (slot % SLOTS) address other at held }
+    ensures place { result ≡ NO_PLACE → (target : OfTarget) × (fde : Fde) × (row : Row)
+        × HasRow module.now header.now address target fde row }
+    ensures dropped { result ≡ NO_PLACE → (other at : ℕ) (held : Row)
+        → Holds rows.new.rows other at held → Holds rows.old.rows other at held }
+    ensures none { result ≡ NONE → IsLookedUp module.now header.now address (Ok None) }
+    ensures refused { result ≡ REFUSED → (why : Why)
+        × IsLookedUp module.now header.now address (Err why) × (fault.new ≡ cfault_of IN_FRAME why) }
+    ensures room { result ≡ NO_ROOM → IsUsable module.now header.now }
+    ensures unusable { result ≢ DONE → result ≢ NONE → result ≢ REFUSED → result ≢ NO_ROOM
+        → result ≢ NO_PLACE → IsUnusable module.now header.now result }
+    ensures same { result ≢ DONE → result ≢ NO_PLACE → rows.new.rows ≡ rows.old.rows }
+    ensures unreported { result ≢ REFUSED → fault.new ≡ fault.old }
+{
+    match look_up_compact(module, header, address) {
+        Ok((target, CompactAnswer::Row(row, fde))) => {
+            keep_compact_row(rows, slot_of(slot), address, target, &row, &fde)
+        }
+        Ok((_, CompactAnswer::Nothing)) => NONE,
+        Ok((_, CompactAnswer::Unsure)) => {
+            fill_with_any_row(alloc, rows, slot, module, header, address, fault)
+        }
         Err(why) => no_answer(why, fault),
     }
 }
@@ -284,7 +360,8 @@ pub extern "C" fn dwcheck_cursor_at_place(cursor: &mut CCursor, place: &Register
 /// The place of a frame at `address` with these registers, where `key` is the address that is looked
 /// up plus 1. None if one of the registers that a walk keeps isn't known.
 fn place_with(registers: &RegisterFile, address: u64, key: u64) -> Option<RegisterPlace>
-    ensures { IfSome result (λ place. (place.address ≡ address) × (place.key ≡ key)
+    ensures { MatchOption result (LacksOne (contents_in registers.now))
+        (λ place. (place.address ≡ address) × (place.key ≡ key)
         × AreIn place (contents_in registers.now)) }
 {
     Some(RegisterPlace {
@@ -300,27 +377,36 @@ fn place_with(registers: &RegisterFile, address: u64, key: u64) -> Option<Regist
     })
 }
 
+/// The key of a cursor's frame: the address that is looked up plus 1. None if that is 2^64.
+fn key_of(cursor: &CCursor) -> Option<u64>
+    ensures key { IfSome result (λ key. looked_up_by cursor.now.stage cursor.now.address ≡ address_before key) }
+    ensures none { result ≡ None → (cursor.now.stage ≡ EXACT) × (2 ^ 64 ≤ cursor.now.address + 1) }
+{
+    match cursor.stage {
+        EXACT => cursor.address.checked_add(1),
+        _ => Some(cursor.address),
+    }
+}
+
 /// The place of a cursor's frame, from which a walk with registers goes on. Returns `NONE` if the
-/// cursor's walk has ended, and `NO_PLACE` if a register that such a walk keeps isn't known.
+/// cursor's walk has ended, and `NO_PLACE` if a register that such a walk keeps isn't known, or if the
+/// key would be 2^64.
 #[unsafe(no_mangle)]
 pub extern "C" fn dwcheck_place_of_cursor(place: &mut RegisterPlace, cursor: &CCursor) -> u32
     ensures with { result ≡ DONE → IsWith place.new (place_of cursor.now) }
     ensures none { result ≡ NONE → CALLER < cursor.now.stage }
     ensures some { result ≢ NONE → cursor.now.stage ≤ CALLER }
+    ensures refused { result ≡ NO_PLACE → LacksOne (contents_in cursor.now.registers)
+        ⊎ ((cursor.now.stage ≡ EXACT) × (2 ^ 64 ≤ cursor.now.address + 1)) }
     ensures codes { (result ≡ DONE) ⊎ (result ≡ NONE) ⊎ (result ≡ NO_PLACE) }
     ensures unwritten { result ≢ DONE → place.new ≡ place.old }
 {
     if cursor.stage > CALLER {
         return NONE;
     }
-    let key = if cursor.stage == EXACT {
-        cursor.address.wrapping_add(1)
-    } else {
-        cursor.address
-    };
-    if cursor.stage == EXACT && key == 0 {
+    let Some(key) = key_of(cursor) else {
         return NO_PLACE;
-    }
+    };
     match place_with(&cursor.registers, cursor.address, key) {
         Some(found) => {
             *place = found;

@@ -13,7 +13,7 @@ ghost use Rattle.dw_in_place.specs.SearchTables.{table_in};
 ghost use Rattle.dw_in_place.specs.Views.{section_of, table_of};
 ghost use Rattle.dw_rows.specs.RowLookups.{IsRowUnder};
 ghost use Rattle.dw_rows.specs.Section.{IsChecked};
-ghost use Rattle.dwcheck_c.specs.InPlaceLookUps.{AreInPlace, HasRow, IsLookedUp, IsNoRow, IsRowGiven, IsStepIn, IsTableBy, IsUnusable, IsUsable, LacksPlaceIn, LooksUp, Says, is_aarch64_by, through_fde};
+ghost use Rattle.dwcheck_c.specs.InPlaceLookUps.{AreInPlace, HasRow, IsLookedUp, IsLookedUpCompactly, IsNoRow, IsRowGiven, IsStepIn, IsTableBy, IsUnusable, IsUsable, LacksPlaceIn, LooksUp, Says, is_aarch64_by, through_fde};
 ghost use Rattle.dw_unwind.specs.MissingPlaces.{LacksPlace};
 ghost use Rattle.dwcheck_c.specs.WalkCursors.{IsStepBy, looked_up_by, registers_in};
 
@@ -30,7 +30,8 @@ use dw_c_types::status::{
 use dw_c_types::target::target;
 use dw_eh_frame::EhFde;
 use dw_in_place::{
-    LookUpMemory, SearchTable, SectionInPlace, row_by_records_in, row_for_address_in,
+    CompactAnswer, LookUpMemory, SearchTable, SectionInPlace, compact_row_by_records_in,
+    compact_row_for_address_in, row_by_records_in, row_for_address_in,
 };
 use dw_process::FoundRow;
 use dw_rules::UnwindRow;
@@ -176,6 +177,27 @@ pub(crate) fn look_up<'p, 'a>(
         Ok(None) => Ok(None),
         Err(fault) => Err(NoAnswer::Refused(fault)),
     }
+}
+
+/// Looks up `address`, an address as loaded, as `look_up` does, but only a compact row, which takes
+/// little stack. If the answer is `Unsure`, `look_up` has it.
+pub(crate) fn look_up_compact<'a>(
+    module: &CModule<'a>,
+    header: &CHeader<'_>,
+    address: u64,
+) -> Result<(Target, CompactAnswer<'a>), NoAnswer>
+    ensures found { IfOk result (λ found.
+        IsLookedUpCompactly module.now header.now address found.0 found.1) }
+    ensures why { IfErr result (IsNoRow module.now header.now address) }
+{
+    let place = in_place(module, header)?;
+    let target = place.section.target;
+    let linked = as_linked(target, module.load_address, address);
+    let answer = match &place.table {
+        Some(table) => compact_row_for_address_in(&place.section, table, linked),
+        None => compact_row_by_records_in(&place.section, linked),
+    };
+    Ok((target, answer))
 }
 
 /// The status that says why a look-up has no answer, and the fault, if it is one.
