@@ -1,6 +1,6 @@
 //! Look-ups in a program's `.eh_frame` where it lies, beside gimli's by the same `.eh_frame_hdr`.
 
-use crate::ours;
+use crate::ours::{self, Way};
 use gimli::{BaseAddresses, CieOrFde, EhFrame, EhFrameHdr, LittleEndian, UnwindContext, UnwindSection};
 use object::{Object, ObjectSection};
 use std::time::Instant;
@@ -70,18 +70,19 @@ fn time(path: &str) {
     let table = parsed.table().expect("a table");
     let section = EhFrame::new(&frame.bytes, LittleEndian);
     let addresses = some_addresses(&section, &bases);
-    let ours = |keeps| {
+    let ours = |way| {
         least(|| {
             ours::look_up_in_place(
                 (&frame.bytes, frame.address),
                 (&header.bytes, header.address),
                 &addresses,
-                keeps,
+                way,
             )
         })
     };
-    let (alone, ends_alone) = ours(false);
-    let (kept, ends_kept) = ours(true);
+    let (alone, ends_alone) = ours(Way::Alone);
+    let (kept, ends_kept) = ours(Way::Kept);
+    let (compact, ends_compact) = ours(Way::Compact);
     let mut context = UnwindContext::new();
     let (theirs, ends) = least(|| {
         addresses.iter().fold(0, |sum, address| {
@@ -93,9 +94,11 @@ fn time(path: &str) {
             sum.wrapping_add(row.end_address())
         })
     });
-    let same = if ends_alone == ends && ends_kept == ends { "the same rows" } else { "OTHER ROWS" };
+    let same = if [ends_alone, ends_kept, ends_compact].iter().all(|sum| *sum == ends) { "the same rows" } else { "OTHER ROWS" };
     println!(
-        "{path}: {kept:.0} ns with CIEs kept ({:.2}), {alone:.0} without ({:.2}), gimli {theirs:.0}; {same}",
+        "{path}: {compact:.0} ns as compact rows ({:.2}), {kept:.0} with CIEs kept ({:.2}), {alone:.0} without ({:.2}), \
+         gimli {theirs:.0}; {same}",
+        compact / theirs,
         kept / theirs,
         alone / theirs
     );

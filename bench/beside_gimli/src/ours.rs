@@ -137,10 +137,20 @@ pub fn expression_answer(bytes: &[u8], big: bool, small: bool, location: bool) -
     unsafe { bench_expression_answer(bytes.as_ptr(), bytes.len(), big, small, location) }
 }
 
+/// How rows are looked up where they lie.
+#[derive(Clone, Copy)]
+pub enum Way {
+    /// Each by itself.
+    Alone = 0,
+    /// With the rules of the last two CIEs kept from one look-up to the next.
+    Kept = 1,
+    /// Each by itself, as a compact row where it is one.
+    Compact = 2,
+}
+
 /// Adds up where the rows of these addresses end, looked up in an `.eh_frame` section where it lies by
-/// its `.eh_frame_hdr`. Each section comes with its address. `keeps` says whether the rules of CIEs are
-/// kept from one look-up to the next.
-pub fn look_up_in_place(section: (&[u8], u64), header: (&[u8], u64), addresses: &[u64], keeps: bool) -> u64 {
+/// its `.eh_frame_hdr`. Each section comes with its address.
+pub fn look_up_in_place(section: (&[u8], u64), header: (&[u8], u64), addresses: &[u64], way: Way) -> u64 {
     unsafe {
         bench_look_up_in_place(
             section.0.as_ptr(),
@@ -151,7 +161,7 @@ pub fn look_up_in_place(section: (&[u8], u64), header: (&[u8], u64), addresses: 
             header.1,
             addresses.as_ptr(),
             addresses.len(),
-            u32::from(keeps),
+            way as u32,
         )
     }
 }

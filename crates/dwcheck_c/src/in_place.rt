@@ -192,10 +192,10 @@ pub(crate) fn look_up_compact<'a>(
 {
     let place = in_place(module, header)?;
     let target = place.section.target;
-    let linked = as_linked(target, module.load_address, address);
+    let address = as_linked(target, module.load_address, address);
     let answer = match &place.table {
-        Some(table) => compact_row_for_address_in(&place.section, table, linked),
-        None => compact_row_by_records_in(&place.section, linked),
+        Some(table) => compact_row_for_address_in(&place.section, table, address),
+        None => compact_row_by_records_in(&place.section, address),
     };
     Ok((target, answer))
 }
