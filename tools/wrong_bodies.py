@@ -45,7 +45,8 @@ pub {name}_spec : {{M : Type 1}} → statement M
 # The first line of a function.
 HEAD = re.compile(r'( *)(?:pub(?:\([a-z]+\))? )?(?:const |unsafe |extern "C" )*fn (\w+)')
 KEPT = pathlib.Path(os.environ.get("XDG_CACHE_HOME") or pathlib.Path.home() / ".cache") / "dwcheck" / "wrong-bodies"
-# How many seconds a check may take.
+# How many seconds of a processor a check may take. The clock says nothing: proofs come first, so on two processors a
+# check may wait for an hour.
 LIMIT = 3600
 
 
@@ -302,8 +303,9 @@ def refusals(crate, every, given, edits):
             return [f"FAILED {edit.name}: {error}" for edit in edits]
         leave_out(crate, functions, folder)
         only = sorted({path_of(crate, function) for function in functions})
-        ran = subprocess.run(words(crate, every, given.libraries, only), cwd=folder, stdin=subprocess.DEVNULL, stdout=subprocess.PIPE,
-                             stderr=subprocess.STDOUT, text=True, errors="replace", timeout=LIMIT, check=False)
+        ran = subprocess.run(["prlimit", f"--cpu={LIMIT}", "--", *words(crate, every, given.libraries, only)], cwd=folder,
+                             stdin=subprocess.DEVNULL, stdout=subprocess.PIPE, stderr=subprocess.STDOUT, text=True,
+                             errors="replace", check=False)
     line = line_of_right if given.right else line_of
     lines = [line(edit, ran.stdout.splitlines()) for edit in edits]
     if any(line.startswith("FAILED") for line in lines):
