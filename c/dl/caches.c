@@ -1,0 +1,118 @@
+/* The pool of caches, and which module has which slot of a cache. */
+#include "caches.h"
+
+#include <stdatomic.h>
+
+static struct dwcheck_dl_cache caches[DWCHECK_DL_CACHES];
+static _Atomic uint64_t readers; /* walks without a cache */
+
+/* ---- claims */
+
+/* A number that differs between threads: that of their control blocks, which the processor has in a register. */
+static uint64_t number_of_thread(void) { return (uint64_t)(uintptr_t)__builtin_thread_pointer(); }
+
+static bool claim(struct dwcheck_dl_cache *cache) {
+    uint64_t claims = atomic_load_explicit(&cache->claims, memory_order_relaxed);
+    return claims % 2 == 0 && atomic_compare_exchange_strong(&cache->claims, &claims, claims + 1);
+}
+
+struct dwcheck_dl_cache *dwcheck_dl_claim(void) {
+    static const uint64_t factor = 0x9e3779b97f4a7c15;
+    const uint64_t first = (number_of_thread() * factor >> 32) % DWCHECK_DL_CACHES;
+    for (uint64_t i = 0; i < DWCHECK_DL_CACHES; i++) {
+        struct dwcheck_dl_cache *cache = &caches[(first + i) % DWCHECK_DL_CACHES];
+        if (claim(cache)) return cache;
+    }
+    return NULL;
+}
+
+void dwcheck_dl_release(struct dwcheck_dl_cache *cache) {
+    uint64_t claims = atomic_load_explicit(&cache->claims, memory_order_relaxed);
+    atomic_store_explicit(&cache->claims, claims + 1, memory_order_release);
+}
+
+void dwcheck_dl_begin_reading(void) { atomic_fetch_add(&readers, 1); }
+void dwcheck_dl_end_reading(void) { atomic_fetch_sub(&readers, 1); }
+
+void dwcheck_dl_now(struct dwcheck_dl_moment *moment) {
+    for (int i = 0; i < DWCHECK_DL_CACHES; i++) moment->claims[i] = atomic_load(&caches[i].claims);
+}
+
+bool dwcheck_dl_is_past(const struct dwcheck_dl_moment *moment) {
+    for (int i = 0; i < DWCHECK_DL_CACHES; i++)
+        if (moment->claims[i] % 2 == 1 && atomic_load(&caches[i].claims) == moment->claims[i]) return false;
+    return atomic_load(&readers) == 0;
+}
+
+/* ---- slots */
+
+static uint64_t bit(int slot) { return UINT64_C(1) << slot; }
+
+static bool has(const struct dwcheck_dl_object *object, uint64_t address) {
+    return address >= object->first && address < object->end;
+}
+
+/* The slot of the module that has an address, if this walk has confirmed it; else -1. */
+static int confirmed_slot(const struct dwcheck_dl_cache *cache, uint64_t confirmed, uint64_t address) {
+    for (; confirmed != 0; confirmed &= confirmed - 1) {
+        const int slot = __builtin_ctzll(confirmed);
+        if (has(&cache->modules[slot].object, address)) return slot;
+    }
+    return -1;
+}
+
+/* The slot that an object has, or may take: one of a few, by its address. It may be another module's, but not one that this
+   walk has confirmed, if there is another way. */
+static int slot_for(const struct dwcheck_dl_cache *cache, uint64_t confirmed, const struct dwcheck_dl_object *object) {
+    enum { TRIED = 8 };
+    static const uint64_t factor = 0x9e3779b97f4a7c15;
+    const int home = (int)((object->first * factor) >> 58);
+    int unused = -1, unconfirmed = -1;
+    for (int i = TRIED - 1; i >= 0; i--) {
+        const int slot = (home + i) % DWCHECK_DL_SLOTS;
+        const struct dwcheck_dl_object *there = &cache->modules[slot].object;
+        if (there->end != 0 && there->first == object->first && there->number == object->number) return slot;
+        if (there->end == 0) unused = slot;
+        else if (!(confirmed & bit(slot))) unconfirmed = slot;
+    }
+    return unused >= 0 ? unused : unconfirmed >= 0 ? unconfirmed : home;
+}
+
+/* Gives the module that has an address a slot, and confirms it. Returns the slot, or -1 if no module has the address. */
+static int confirm(struct dwcheck_dl_cache *cache, uint64_t *confirmed, uint64_t address) {
+    struct dwcheck_dl_object object;
+    if (!dwcheck_dl_find(address, &object)) return -1;
+    const int slot = slot_for(cache, *confirmed, &object);
+    struct dwcheck_dl_module *module = &cache->modules[slot];
+    if (!dwcheck_dl_is_same(module, &object)) {
+        *confirmed &= ~bit(slot);
+        if (module->object.end != 0) dwcheck_rows_forget(&cache->rows, (uint32_t)slot);
+        dwcheck_dl_describe(&object, module);
+    }
+    *confirmed |= bit(slot);
+    return slot;
+}
+
+const struct dwcheck_dl_module *dwcheck_dl_module_of(struct dwcheck_dl_cache *cache, uint64_t *confirmed, uint64_t address,
+                                                     struct dwcheck_dl_module *room) {
+    struct dwcheck_dl_object object;
+    if (cache == NULL) {
+        if (!dwcheck_dl_find(address, &object)) return NULL;
+        dwcheck_dl_describe(&object, room);
+        return room;
+    }
+    int slot = confirmed_slot(cache, *confirmed, address);
+    if (slot < 0) slot = confirm(cache, confirmed, address);
+    return slot < 0 ? NULL : &cache->modules[slot];
+}
+
+uint32_t dwcheck_dl_supply(struct dwcheck_dl_cache *cache, uint64_t *confirmed, uint64_t address) {
+    dwcheck_fault fault;
+    const int slot = confirmed_slot(cache, *confirmed, address);
+    if (slot < 0) return confirm(cache, confirmed, address) < 0 ? DWCHECK_NONE : DWCHECK_DONE;
+    const dwcheck_module module = dwcheck_dl_section_of(&cache->modules[slot]);
+    const dwcheck_header header = dwcheck_dl_header_of(&cache->modules[slot]);
+    if (module.frame_length == 0) return DWCHECK_NONE;
+    const uint32_t status = dwcheck_rows_fill(&cache->rows, (uint32_t)slot, &module, &header, address, &fault);
+    return status == DWCHECK_NO_PLACE ? DWCHECK_DONE : status;
+}

@@ -1,0 +1,47 @@
+/* The rows that walks keep: a fixed number of caches, each with the modules that its rows are of. A walk claims one, so
+   that no other walk uses it, also none in a signal handler. */
+#ifndef DWCHECK_DL_CACHES_H
+#define DWCHECK_DL_CACHES_H
+
+#include "find.h"
+
+enum { DWCHECK_DL_SLOTS = 64, DWCHECK_DL_CHUNK = 64, DWCHECK_DL_FRAMES = 6 };
+
+struct dwcheck_dl_cache {
+    _Atomic uint64_t claims; /* how often it was claimed and released: odd while a walk has it */
+    dwcheck_rows rows;
+    struct dwcheck_dl_module modules[DWCHECK_DL_SLOTS];
+    union { /* what the walk has found last */
+        uint64_t addresses[DWCHECK_DL_CHUNK];
+        dwcheck_register_frame frames[DWCHECK_DL_FRAMES];
+    } found;
+};
+
+/* Claims a cache for a walk: preferably the one that the thread had last. Returns NULL if walks have all of them. It takes
+   no lock. A cache that isn't released, since siglongjmp has left the walk, stays claimed. */
+DWCHECK_DL_HIDDEN struct dwcheck_dl_cache *dwcheck_dl_claim(void);
+DWCHECK_DL_HIDDEN void dwcheck_dl_release(struct dwcheck_dl_cache *cache);
+
+/* Makes the cache have what it can have for an address: confirms its module for this walk, whose bit in `confirmed`
+   becomes set; or if it was confirmed already, fills in the row. Returns DWCHECK_DONE, and the walk may go on;
+   DWCHECK_NONE if no row covers the address; or why the row can't be read. */
+DWCHECK_DL_HIDDEN uint32_t dwcheck_dl_supply(struct dwcheck_dl_cache *cache, uint64_t *confirmed, uint64_t address);
+
+/* The module of an address: that of the cache, or if it is NULL, what `room` becomes. Returns NULL if there is none. */
+DWCHECK_DL_HIDDEN const struct dwcheck_dl_module *dwcheck_dl_module_of(struct dwcheck_dl_cache *cache, uint64_t *confirmed,
+                                                                       uint64_t address, struct dwcheck_dl_module *room);
+
+/* For what readers use and writers replace: walks that have no cache are counted while they read. */
+DWCHECK_DL_HIDDEN void dwcheck_dl_begin_reading(void);
+DWCHECK_DL_HIDDEN void dwcheck_dl_end_reading(void);
+
+/* The claims of all caches at some moment. What was replaced before it isn't read any more, once each walk is done that
+   was under way then. */
+enum { DWCHECK_DL_CACHES = 22 };
+struct dwcheck_dl_moment {
+    uint64_t claims[DWCHECK_DL_CACHES];
+};
+DWCHECK_DL_HIDDEN void dwcheck_dl_now(struct dwcheck_dl_moment *moment);
+DWCHECK_DL_HIDDEN bool dwcheck_dl_is_past(const struct dwcheck_dl_moment *moment);
+
+#endif

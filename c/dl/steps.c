@@ -1,0 +1,184 @@
+/* Steps of a walk that kept rows don't take: by a row with an expression, through the frame of a signal, after a call of what
+   is no function, and by frame pointers. */
+#define _GNU_SOURCE
+#include "memory.h"
+#include "walk.h"
+
+#include <signal.h>
+#include <string.h>
+
+enum { PAGE = 4096, WORD = 8, RED_ZONE = 128, PAGES = 2 };
+
+static uint64_t word_at(uint64_t address) {
+    uint64_t word;
+    memcpy(&word, (const void *)(uintptr_t)address, sizeof word);
+    return word;
+}
+
+static void end(struct dwcheck_dl_walk *walk, uint32_t stop) {
+    walk->stop = stop;
+    walk->is_over = true;
+}
+
+/* ---- where a signal interrupted the thread */
+
+/* Whether a thread was interrupted because nothing can be executed where it is: the processor says that it was to fetch
+   the instruction there, from memory that isn't mapped or mustn't be executed. What it said of an earlier interruption
+   stays in the context of later ones, so it must have been at the same address. */
+static bool is_nowhere(const greg_t *registers) {
+    enum { PAGE_FAULT = 14, OF_FETCH = 1 << 4 };
+    return registers[REG_TRAPNO] == PAGE_FAULT && registers[REG_ERR] & OF_FETCH && registers[REG_CR2] == registers[REG_RIP];
+}
+
+void dwcheck_dl_go_to(struct dwcheck_dl_walk *walk, const ucontext_t *context) {
+    const greg_t *r = context->uc_mcontext.gregs;
+    const uint64_t address = (uint64_t)r[REG_RIP], pointer = (uint64_t)r[REG_RSP];
+    walk->place = (dwcheck_register_place){.address = address, .key = address + 1, .stack_pointer = pointer,
+                                           .rbx = (uint64_t)r[REG_RBX], .rbp = (uint64_t)r[REG_RBP], .r12 = (uint64_t)r[REG_R12],
+                                           .r13 = (uint64_t)r[REG_R13], .r14 = (uint64_t)r[REG_R14], .r15 = (uint64_t)r[REG_R15]};
+    walk->is_nowhere = is_nowhere(r);
+    walk->stack = dwcheck_dl_stack_at(pointer, RED_ZONE, PAGES);
+}
+
+/* Whether the code at an address is that to which signal handlers return: the system call rt_sigreturn. */
+static bool is_return_of_signal(uint64_t address) {
+    static const uint8_t code[] = {0x48, 0xc7, 0xc0, 15, 0, 0, 0, 0x0f, 0x05}; /* mov $15, %rax; syscall */
+    if (!dwcheck_dl_is_readable(address) || !dwcheck_dl_is_readable(address + sizeof code - 1)) return false;
+    return memcmp((const void *)(uintptr_t)address, code, sizeof code) == 0;
+}
+
+/* Goes on from the frame of a signal, whose stack pointer is at what the kernel has saved. The row says the same by
+   expressions, where there is one. */
+static bool leave_signal(struct dwcheck_dl_walk *walk, dwcheck_register_frame *frame) {
+    const uint64_t saved = walk->place.stack_pointer;
+    if (walk->place.key != walk->place.address || !is_return_of_signal(walk->place.address)) return false;
+    if (!dwcheck_dl_has(&walk->stack, saved, offsetof(ucontext_t, uc_mcontext) + sizeof(gregset_t))) return false;
+    dwcheck_dl_go_to(walk, (const ucontext_t *)(uintptr_t)saved);
+    frame->cfa = walk->place.stack_pointer;
+    return true;
+}
+
+/* ---- rows with expressions */
+
+/* Takes a step by the row that a look-up finds. If the return address can't be read, which may be because the memory goes
+   on after the block, tries again with more memory: then the cursor has stayed where it was. */
+static uint32_t step_cursor(struct dwcheck_dl_walk *walk, const struct dwcheck_dl_module *module, dwcheck_cursor *cursor, dwcheck_frame *frame) {
+    static const uint16_t kept[] = {3, 6, 12, 13, 14, 15};
+    enum { RSP = 7 };
+    const dwcheck_module section = dwcheck_dl_section_of(module);
+    const dwcheck_header header = dwcheck_dl_header_of(module);
+    const dwcheck_state state = {.blocks = &walk->stack, .blocks_length = 1, .kept = kept, .kept_length = sizeof kept / sizeof *kept,
+                                 .stack_pointer = RSP, .has_stack_pointer = 1};
+    const uint32_t stage = cursor->stage;
+    dwcheck_fault fault;
+    for (;;) {
+        uint32_t status = dwcheck_step_in(&section, &header, cursor, &state, frame, &fault);
+        if (status != DWCHECK_DONE || cursor->stage != DWCHECK_STOP_RETURN_UNREADABLE + 1) return status;
+        if (frame->cfa.kind != DWCHECK_ANSWER_VALUE || !dwcheck_dl_extend(&walk->stack, frame->cfa.value)) return status;
+        cursor->stage = stage;
+    }
+}
+
+/* Goes to where the cursor is after a step. */
+static void go_to_cursor(struct dwcheck_dl_walk *walk, const dwcheck_cursor *cursor) {
+    if (dwcheck_place_of_cursor(&walk->place, cursor) != DWCHECK_DONE) {
+        end(walk, DWCHECK_STOP_RETURN_UNREADABLE);
+        return;
+    }
+    if (cursor->stage == DWCHECK_CURSOR_EXACT) walk->stack = dwcheck_dl_stack_at(walk->place.stack_pointer, RED_ZONE, PAGES);
+}
+
+static void step_by_row(struct dwcheck_dl_walk *walk, dwcheck_register_frame *frame) {
+    struct dwcheck_dl_module room;
+    dwcheck_cursor cursor;
+    dwcheck_frame at;
+    const struct dwcheck_dl_module *module = NULL;
+    uint32_t status = DWCHECK_NONE;
+    if (walk->place.key != 0) module = dwcheck_dl_module_of(walk->cache, &walk->confirmed, walk->place.key - 1, &room);
+    if (module != NULL && module->frame_length != 0) status = dwcheck_cursor_at_place(&cursor, &walk->place);
+    if (status == DWCHECK_DONE) status = step_cursor(walk, module, &cursor, &at);
+    if (status != DWCHECK_DONE || cursor.stage == DWCHECK_STOP_NOT_COVERED + 1) {
+        dwcheck_dl_step_without_row(walk, frame, status == DWCHECK_DONE ? DWCHECK_NONE : status);
+        return;
+    }
+    if (at.cfa.kind == DWCHECK_ANSWER_VALUE) frame->cfa = at.cfa.value;
+    if (cursor.stage > DWCHECK_CURSOR_CALLER) end(walk, cursor.stage - 1);
+    else go_to_cursor(walk, &cursor);
+}
+
+void dwcheck_dl_step(struct dwcheck_dl_walk *walk, dwcheck_register_frame *frame) {
+    *frame = (dwcheck_register_frame){.place = walk->place};
+    if (!leave_signal(walk, frame)) step_by_row(walk, frame);
+}
+
+/* ---- frames without a row */
+
+/* The length of an instruction ff whose operand byte is this one. */
+static int length_of(uint8_t operand) {
+    int kind = operand >> 6, has_index = (operand & 7) == 4 && kind != 3;
+    int displacement = kind == 2 || (kind == 0 && (operand & 7) == 5) ? 4 : kind == 1;
+    return 2 + has_index + displacement;
+}
+
+/* Whether a near call ends at an address: e8 and four bytes; or ff, a byte whose middle bits are 2, and what this byte
+   says that follows. */
+static bool follows_call(uint64_t address) {
+    enum { LONGEST = 7, DIRECT = 5 };
+    if (address < LONGEST || !dwcheck_dl_is_readable(address - LONGEST) || !dwcheck_dl_is_readable(address - 1)) return false;
+    const uint8_t *end = (const uint8_t *)(uintptr_t)address;
+    if (end[-DIRECT] == 0xe8) return true;
+    for (int length = 2; length <= LONGEST; length++)
+        if (end[-length] == 0xff && (end[1 - length] >> 3 & 7) == 2 && length_of(end[1 - length]) == length) return true;
+    return false;
+}
+
+/* Whether a row is for the call before a return address. The first answer may be about the module alone. */
+static bool has_row(struct dwcheck_dl_walk *walk, uint64_t return_address) {
+    return walk->cache != NULL && dwcheck_dl_supply(walk->cache, &walk->confirmed, return_address - 1) == DWCHECK_DONE
+           && dwcheck_dl_supply(walk->cache, &walk->confirmed, return_address - 1) == DWCHECK_DONE;
+}
+
+/* Where no row says who the caller is, this library has a policy of its own: without being asked, it guesses only after a wild call. The tools
+   in Rust (rust/dwcheck-elf/src/process/without_row.rs) also guess by frame pointers and by return addresses of code without
+   rows, and mark each such frame. Addresses alone have no mark, so users would take a guess for a frame. */
+
+/* Whether the thread was interrupted where it has called what is no function: a null pointer, or any other address where
+   nothing can be executed. The call has pushed its return address, and done nothing else. Then goes back to the frame
+   that made the call. In place of a call there may have been a return to a wrong address: so the address must follow a
+   call, and be one of code with rows, unless it was a null pointer. */
+static bool leave_wild_call(struct dwcheck_dl_walk *walk) {
+    dwcheck_register_place *place = &walk->place;
+    const bool is_null = place->address < PAGE;
+    if (place->key != place->address + 1 || (!is_null && !walk->is_nowhere)) return false;
+    if (!dwcheck_dl_has(&walk->stack, place->stack_pointer, WORD)) return false;
+    const uint64_t address = word_at(place->stack_pointer);
+    if (!follows_call(address) || (!is_null && !has_row(walk, address))) return false;
+    place->address = place->key = address;
+    place->stack_pointer += WORD;
+    walk->is_nowhere = false;
+    walk->mark = DWCHECK_DL_BY_CALL;
+    return true;
+}
+
+/* Goes to the caller that rbp leads to, as in code that keeps a chain of frames: the word at rbp is the caller's rbp, and the
+   next one is the return address. */
+static bool follow_frame_pointer(struct dwcheck_dl_walk *walk) {
+    enum { MOST = 1 << 20 };
+    dwcheck_register_place *place = &walk->place;
+    const uint64_t at = place->rbp;
+    if (!(walk->options & DWCHECK_DL_FRAME_POINTERS) || at % WORD != 0 || at - place->stack_pointer > MOST) return false;
+    if (!dwcheck_dl_has(&walk->stack, at, 2 * WORD)) return false;
+    const uint64_t caller = word_at(at + WORD);
+    if (!dwcheck_dl_is_readable(caller)) return false;
+    place->address = place->key = caller;
+    place->rbp = word_at(at);
+    place->stack_pointer = at + 2 * WORD;
+    walk->mark = DWCHECK_DL_BY_FRAME_POINTER;
+    return true;
+}
+
+void dwcheck_dl_step_without_row(struct dwcheck_dl_walk *walk, dwcheck_register_frame *frame, uint32_t status) {
+    *frame = (dwcheck_register_frame){.place = walk->place};
+    if (status == DWCHECK_NONE && (leave_wild_call(walk) || leave_signal(walk, frame) || follow_frame_pointer(walk))) return;
+    end(walk, status == DWCHECK_NONE ? DWCHECK_STOP_NOT_COVERED : DWCHECK_DL_STOP_REFUSED);
+}
