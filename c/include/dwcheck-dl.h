@@ -16,8 +16,8 @@
      headers and the first KB of .eh_frame.
    - Memory is read only where it can be: the stack of a thread that has called dwcheck_dl_thread; else the kernel is asked
      about each page, in each walk. So stacks may overflow, and be those of sigaltstack, makecontext or other libraries.
-   - A walk takes up to 1.7 KB of stack, and 53 KB more at the first sight of a row with an expression, and to look up
-     what isn't kept.
+   - A walk takes 2.0 KB of stack where all rows are kept, and 55.0 KB where rows are looked up, as
+     tools/stack_use.py has measured.
 
    To link: cc .. $(pkg-config --cflags --libs dwcheck-dl); or by CMake, dwcheck::dl or dwcheck::dl_shared. */
 #ifndef DWCHECK_DL_H

@@ -125,15 +125,32 @@ build_called() { # a library whose only function calls back
         cc -O2 -fPIC -shared -x c - -o "$out/called.so"
 }
 
-dl() { # builds the tests of dwcheck-dl, and runs them with a library that comes and goes
-    build_called &&
-        cc -std=gnu11 $strict -O2 -g -fno-optimize-sibling-calls -fno-omit-frame-pointer "$top/c/tests/dl.c" "$dl_library" "$library" -o "$out/dl" \
-            -pthread -ldl && "$out/dl" "$out/called.so"
+build_dl() { # PROGRAM FLAG..: builds tests of dwcheck-dl
+    local program=$1
+    shift
+    cc -std=gnu11 $strict -O2 -g -fno-optimize-sibling-calls -fno-omit-frame-pointer "$@" "$top/c/tests/$program.c" "$dl_library" "$library" \
+        -o "$out/$program" -pthread -ldl
+}
+
+dl() { # PROGRAM FLAG..: builds such tests, and runs them
+    build_dl "$@" && "$out/$1"
+}
+
+calls_back() { # LIBRARY BYTES FLAG..: a library whose function calls back, and takes so much stack
+    local library=$1 bytes=$2
+    shift 2
+    printf 'void call_back(void (*f)(void));\nvoid call_back(void (*f)(void)) { volatile char bytes[%s]; bytes[0] = 1; f(); bytes[1] = 2; }\n' "$bytes" |
+        cc -O2 -fPIC -shared "$@" -x c - -o "$out/$library"
+}
+
+dl_modules() { # FLAG..: builds the tests of dwcheck-dl with libraries that are compiled so, and runs them
+    build_called && calls_back small.so 1000 "$@" && calls_back large.so 4000 "$@" && build_dl dl_modules &&
+        "$out/dl_modules" "$out/called.so" "$out/small.so" "$out/large.so"
 }
 
 linked() { # FLAG..: builds a program that prints how many frames its stack has, with many other functions
     {
-        printf '#include "dwcheck-dl.h"\n#include <stdio.h>\nint main(void) {\n    void *frames[9];\n    dwcheck_dl_update(NULL);\n'
+        printf '#include "dwcheck-dl.h"\n#include <stdio.h>\nint main(void) {\n    void *frames[9];\n    dwcheck_dl_prepare();\n'
         printf '    return printf("%%d frames\\n", dwcheck_dl_backtrace(frames, 9)) < 0;\n}\n'
         seq 900 | sed 's/.*/int f&(int x); int f&(int x) { return x + &; }/'
     } | cc -std=gnu11 $strict -O2 "$@" -x c - -x none "$dl_library" "$library" -o "$out/linked" -pthread -ldl &&
@@ -228,7 +245,10 @@ test_of "walks with kept rows under valgrind" kept_rows_under_valgrind
 test_of "walks with kept rows up own stacks" kept_rows_of_stacks
 test_of "walks with kept rows up own stacks, with ASan and UBSan" kept_rows_of_stacks -fsanitize=address,undefined -fno-sanitize-recover=all
 test_of "walks with kept rows up own stacks under valgrind" kept_rows_of_stacks_under_valgrind
-test_of "stacks of dwcheck-dl are glibc's, while libraries come and go" dl
+test_of "stacks of dwcheck-dl are glibc's, with nothing called before" dl dl
+test_of "stacks of dwcheck-dl are glibc's, while libraries come and go" dl_modules
+test_of "stacks of dwcheck-dl are glibc's, while libraries without build ids come and go" dl_modules -Wl,--build-id=none
+test_of "walks that interrupt walks, or come after walks that were left" dl dl_left
 test_of "rows are given to the code of a module, which stays the same" rows_of_modules
 test_of "a module without attributes is compiled" modules_without_attributes
 test_of "other calls of clang stay as they are, and a failure is one line" other_words
