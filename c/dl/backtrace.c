@@ -8,8 +8,9 @@
 #error "dwcheck-dl is for x86-64"
 #endif
 
-/* A function NAME that calls NAME_here with one more argument, in REGISTER: a place, which is that of its caller. It is in
-   assembler, since the contents of the registers at its first instruction are needed, and so that it is no frame itself. */
+/* A function NAME that calls NAME_here with one more argument, in REGISTER: a place, which is that of its caller. It
+   is in assembler, since the contents of the registers at its first instruction are needed, and so that it is no
+   frame itself. */
 #define FROM_CALLER(NAME, REGISTER)                                                                          \
     __asm__(".pushsection .text\n.globl " NAME "\n.type " NAME ", @function\n" NAME ":\n.cfi_startproc\n"   \
             "endbr64\n"                                                                                      \
@@ -31,7 +32,8 @@ _Static_assert(offsetof(dwcheck_register_place, stack_pointer) == 16 && offsetof
 
 #define CALLED_HERE __attribute__((used, visibility("hidden")))
 CALLED_HERE int dwcheck_dl_backtrace_here(void **addresses, int size, const dwcheck_register_place *here);
-CALLED_HERE int dwcheck_dl_walk_here(dwcheck_dl_request *request, void **addresses, int size, const dwcheck_register_place *here);
+CALLED_HERE int dwcheck_dl_walk_here(dwcheck_dl_request *request, void **addresses, int size,
+                                     const dwcheck_register_place *here);
 CALLED_HERE int dwcheck_dl_frames_here(dwcheck_dl_request *request, dwcheck_register_frame *frames, int size,
                                        const dwcheck_register_place *here);
 
@@ -98,7 +100,8 @@ int dwcheck_dl_walk_here(dwcheck_dl_request *request, void **addresses, int size
     return (int)count;
 }
 
-int dwcheck_dl_frames_here(dwcheck_dl_request *request, dwcheck_register_frame *frames, int size, const dwcheck_register_place *here) {
+int dwcheck_dl_frames_here(dwcheck_dl_request *request, dwcheck_register_frame *frames, int size,
+                           const dwcheck_register_place *here) {
     struct dwcheck_dl_walk walk;
     start(&walk, request, here);
     const size_t count = write_frames(&walk, frames, size > 0 ? (size_t)size : 0, request->marks);

@@ -100,9 +100,9 @@ static uint64_t put_record(struct output *output, const dwcheck_module *other, c
     return place;
 }
 
-/* Whether an FDE of .debug_frame may be one of code that is there: of code from `first` to `last`, but not of address 0,
-   to which linkers move the FDEs of functions that they dropped. In many modules no code begins there, but the segment
-   with the code does. */
+/* Whether an FDE of .debug_frame may be one of code that is there: of code from `first` to `last`, but not of address
+   0, to which linkers move the FDEs of functions that they dropped. In many modules no code begins there, but the
+   segment with the code does. */
 static int is_of_code(const struct record *record, uint64_t first, uint64_t last) {
     return record->kind == DWCHECK_RECORD_FDE && record->start != 0 && record->start < record->end && record->start >= first
            && record->end - 1 <= last;
@@ -157,8 +157,8 @@ uint32_t dwcheck_dl_both(const dwcheck_module *module, const dwcheck_module *oth
 /* Whether a difference fits the four bytes that a table has for it. */
 static int fits(uint64_t difference) { return (int64_t)difference == (int32_t)difference; }
 
-/* Writes the table of FDEs, which are in the order of their addresses: each address and where the record is, both from `from` on.
-   Returns 0 if one doesn't fit. */
+/* Writes the table of FDEs, which are in the order of their addresses: each address and where the record is, both
+   from `from` on. Returns 0 if one doesn't fit. */
 static int write_table(uint8_t *bytes, const struct records *fdes, uint64_t from) {
     enum { FIXED = 12, ENTRY = 8 };
     static const uint8_t encodings[] = {1, 0x1b, 3, 0x3b};

@@ -61,28 +61,38 @@ static int confirmed_slot(const struct dwcheck_dl_cache *cache, uint64_t confirm
     return -1;
 }
 
-/* The slot that an object has, or may take: one of a few, by its address. It may be another module's, but not one that this
-   walk has confirmed, if there is another way. */
-static int slot_for(const struct dwcheck_dl_cache *cache, uint64_t confirmed, const struct dwcheck_dl_object *object) {
-    enum { TRIED = 8 };
-    static const uint64_t factor = 0x9e3779b97f4a7c15;
-    const int home = (int)((object->first * factor) >> 58);
-    int unused = -1, unconfirmed = -1;
-    for (int i = TRIED - 1; i >= 0; i--) {
-        const int slot = (home + i) % DWCHECK_DL_SLOTS;
-        const struct dwcheck_dl_object *there = &cache->modules[slot].object;
-        if (there->end != 0 && there->first == object->first && there->number == object->number) return slot;
-        if (there->end == 0) unused = slot;
-        else if (!(confirmed & bit(slot))) unconfirmed = slot;
+static bool is_at(const struct dwcheck_dl_cache *cache, uint32_t slot, const struct dwcheck_dl_object *object) {
+    const struct dwcheck_dl_object *there = &cache->modules[slot].object;
+    return slot < cache->used && there->first == object->first && there->number == object->number;
+}
+
+/* A slot that no module has; or one of another module, but not of one that this walk has confirmed, if there is
+   another way. */
+static uint32_t free_slot(struct dwcheck_dl_cache *cache, uint64_t confirmed) {
+    if (cache->used < DWCHECK_DL_SLOTS) return cache->used++;
+    for (int i = 0; i < DWCHECK_DL_SLOTS; i++) {
+        cache->turn = (cache->turn + 1) % DWCHECK_DL_SLOTS;
+        if (!(confirmed & bit((int)cache->turn))) break;
     }
-    return unused >= 0 ? unused : unconfirmed >= 0 ? unconfirmed : home;
+    return cache->turn;
+}
+
+/* The slot of the module that was where an object is, or one that it may take. */
+static uint32_t slot_for(struct dwcheck_dl_cache *cache, uint64_t confirmed, const struct dwcheck_dl_object *object) {
+    static const uint64_t factor = 0x9e3779b97f4a7c15;
+    uint8_t *hint = &cache->hints[object->first * factor >> 58];
+    uint32_t slot = *hint;
+    if (is_at(cache, slot, object)) return slot;
+    for (slot = 0; slot < cache->used && !is_at(cache, slot, object); slot++) {}
+    if (slot == cache->used) slot = free_slot(cache, confirmed);
+    return *hint = (uint8_t)slot;
 }
 
 /* Gives the module that has an address a slot, and confirms it. Returns the slot, or -1 if no module has the address. */
 static int confirm(struct dwcheck_dl_cache *cache, uint64_t *confirmed, uint64_t address) {
     struct dwcheck_dl_object object;
     if (!dwcheck_dl_find(address, &object)) return -1;
-    const int slot = slot_for(cache, *confirmed, &object);
+    const int slot = (int)slot_for(cache, *confirmed, &object);
     struct dwcheck_dl_module *module = &cache->modules[slot];
     if (!dwcheck_dl_is_same(module, &object)) {
         *confirmed &= ~bit(slot);

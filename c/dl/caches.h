@@ -7,18 +7,22 @@
 
 enum { DWCHECK_DL_SLOTS = 64, DWCHECK_DL_CHUNK = 64, DWCHECK_DL_FRAMES = 6 };
 
+/* What the first walks use lies together, since each page that is touched for the first time takes a microsecond or
+   two. */
 struct dwcheck_dl_cache {
     _Atomic uint64_t claims; /* how often it was claimed and released: odd while a walk has it */
-    dwcheck_rows rows;
-    struct dwcheck_dl_module modules[DWCHECK_DL_SLOTS];
+    uint32_t used, turn;     /* how many slots have a module, and which one has lost its own last */
+    uint8_t hints[DWCHECK_DL_SLOTS]; /* the slot that the module of an address may have */
     union { /* what the walk has found last */
         uint64_t addresses[DWCHECK_DL_CHUNK];
         dwcheck_register_frame frames[DWCHECK_DL_FRAMES];
     } found;
-};
+    struct dwcheck_dl_module modules[DWCHECK_DL_SLOTS];
+    dwcheck_rows rows;
+} __attribute__((aligned(4096)));
 
-/* Claims a cache for a walk: preferably the one that the thread had last. Returns NULL if walks have all of them. It takes
-   no lock. A cache that isn't released, since siglongjmp has left the walk, stays claimed. */
+/* Claims a cache for a walk: preferably the one that the thread had last. Returns NULL if walks have all of them. It
+   takes no lock. A cache that isn't released, since siglongjmp has left the walk, stays claimed. */
 DWCHECK_DL_HIDDEN struct dwcheck_dl_cache *dwcheck_dl_claim(void);
 DWCHECK_DL_HIDDEN void dwcheck_dl_release(struct dwcheck_dl_cache *cache);
 

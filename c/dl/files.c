@@ -57,8 +57,8 @@ static bool has_same(bytes file, const struct dl_phdr_info *info, uint32_t type,
     for (size_t i = 0; i < info->dlpi_phnum; i++) {
         const ElfW(Phdr) *segment = &info->dlpi_phdr[i];
         uint64_t first = info->dlpi_addr + segment->p_vaddr, end = dwcheck_dl_end_of_segment(info, first);
-        if (segment->p_type == type && (segment->p_flags & (PF_W | PF_X)) == flags && end != 0 && segment->p_filesz <= end - first
-            && (!is_inside(file, segment->p_offset, segment->p_filesz)
+        if (segment->p_type == type && (segment->p_flags & (PF_W | PF_X)) == flags && end != 0
+            && segment->p_filesz <= end - first && (!is_inside(file, segment->p_offset, segment->p_filesz)
                 || memcmp(file.first + segment->p_offset, (const void *)first, segment->p_filesz) != 0))
             return false;
     }

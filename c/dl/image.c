@@ -5,18 +5,28 @@
 
 #include <elf.h>
 #include <string.h>
+#include <sys/auxv.h>
 
 enum { PAGE = 4096 };
 
+/* The program is the first module of its namespace, and has no name. In a static one the loader gives only the
+   addresses of its code, so its program headers are those of which the kernel has said where they are. */
+static bool is_program(const struct link_map *map) { return map->l_prev == NULL && map->l_name[0] == 0; }
+
 bool dwcheck_dl_info_of(const struct dwcheck_dl_object *object, struct dl_phdr_info *info) {
     const ElfW(Ehdr) *header = (const void *)(uintptr_t)object->first;
-    if (object->map == NULL || object->end - object->first < PAGE || object->first % PAGE != 0) return false;
+    if (object->map == NULL) return false;
+    *info = (struct dl_phdr_info){.dlpi_addr = object->map->l_addr, .dlpi_name = object->map->l_name};
+    if (is_program(object->map)) {
+        info->dlpi_phdr = (const void *)getauxval(AT_PHDR), info->dlpi_phnum = (uint16_t)getauxval(AT_PHNUM);
+        return true;
+    }
+    if (object->end - object->first < PAGE || object->first % PAGE != 0) return false;
     if (!dwcheck_dl_is_readable(object->first) || memcmp(header->e_ident, ELFMAG, SELFMAG) != 0) return false;
     if (header->e_ident[EI_CLASS] != ELFCLASS64 || header->e_phentsize != sizeof(ElfW(Phdr))) return false;
     size_t size = (size_t)header->e_phnum * sizeof(ElfW(Phdr));
     if (header->e_phoff % _Alignof(ElfW(Phdr)) != 0 || header->e_phoff > PAGE || size > PAGE - header->e_phoff) return false;
-    *info = (struct dl_phdr_info){.dlpi_addr = object->map->l_addr, .dlpi_name = object->map->l_name, .dlpi_phnum = header->e_phnum,
-                                  .dlpi_phdr = (const void *)(object->first + header->e_phoff)};
+    info->dlpi_phdr = (const void *)(object->first + header->e_phoff), info->dlpi_phnum = header->e_phnum;
     return true;
 }
 
@@ -59,14 +69,14 @@ static size_t length_of_records(uint64_t first, uint64_t end, uint32_t fdes, boo
     return at - first;
 }
 
-/* The first four bytes of a header: its version, and how the address of the section, the number of FDEs and the entries of
-   the table are written. Linkers write four bytes each, the address relative to its own place. */
+/* The first four bytes of a header: its version, and how the address of the section, the number of FDEs and the
+   entries of the table are written. Linkers write four bytes each, the address relative to its own place. */
 enum { VERSION = 1, PCREL_SDATA4 = 0x1b, UDATA4 = 3, DATAREL_SDATA4 = 0x3b, FIXED = 12, ENTRY = 8 };
 
 struct dwcheck_dl_bytes dwcheck_dl_table_of(const struct dl_phdr_info *info, const uint8_t *header) {
     const uint64_t at = (uintptr_t)header, end = dwcheck_dl_end_of_segment(info, at);
-    if (end - at < FIXED || header[0] != VERSION || header[1] != PCREL_SDATA4 || header[2] != UDATA4 || header[3] != DATAREL_SDATA4)
-        return (struct dwcheck_dl_bytes){NULL, 0};
+    static const uint8_t usual[] = {VERSION, PCREL_SDATA4, UDATA4, DATAREL_SDATA4};
+    if (end - at < FIXED || memcmp(header, usual, sizeof usual) != 0) return (struct dwcheck_dl_bytes){NULL, 0};
     uint64_t length = FIXED + (uint64_t)ENTRY * word_at(at + 8);
     return (struct dwcheck_dl_bytes){header, length <= end - at ? length : 0};
 }
@@ -79,14 +89,15 @@ static struct dwcheck_dl_bytes rest_of_segment(const struct dl_phdr_info *info, 
     return (struct dwcheck_dl_bytes){(const void *)(uintptr_t)first, end == 0 ? 0 : end - first};
 }
 
-/* Where no record of length 0 ends the section, as in some programs without the usual start files, it ends with the number of
-   FDEs that the header gives. */
+/* Where no record of length 0 ends the section, as in some programs without the usual start files, it ends with the
+   number of FDEs that the header gives. */
 struct dwcheck_dl_bytes dwcheck_dl_records_of(const struct dl_phdr_info *info, const uint8_t *header) {
     struct dwcheck_dl_bytes section = rest_of_segment(info, header);
     const uint64_t first = (uintptr_t)section.first, end = first + section.length;
     bool is_found = true;
+    const uint32_t fdes = section.length != 0 && header[2] == UDATA4 ? word_at((uintptr_t)header + 8) : 0;
     if (section.length != 0) section.length = length_of_records(first, end, UINT32_MAX, &is_found);
-    if (!is_found && header[2] == UDATA4) section.length = length_of_records(first, end, word_at((uintptr_t)header + 8), &is_found);
+    if (!is_found && fdes != 0) section.length = length_of_records(first, end, fdes, &is_found);
     return section;
 }
 
@@ -123,17 +134,23 @@ struct dwcheck_dl_bytes dwcheck_dl_build_id(const struct dwcheck_dl_object *obje
     return id;
 }
 
-/* Four sums side by side, since each step of one needs the step before. */
+static uint64_t mixed(uint64_t sum, uint64_t word) {
+    sum = (sum ^ word) * 0x9e3779b97f4a7c15;
+    return sum ^ sum >> 32;
+}
+
+/* Blocks are summed by four sums side by side, since each step of one needs the step before. */
 uint64_t dwcheck_dl_sum(uint64_t sum, const void *bytes, size_t length) {
     enum { LANES = 4 };
-    static const uint64_t factor = 0x9e3779b97f4a7c15;
-    uint64_t lanes[LANES] = {sum, sum ^ 1, sum ^ 2, sum ^ 3}, words[LANES];
-    for (size_t at = 0; at < length; at += sizeof words) {
-        memset(words, 0, sizeof words);
-        memcpy(words, (const uint8_t *)bytes + at, length - at < sizeof words ? length - at : sizeof words);
-        for (int i = 0; i < LANES; i++) lanes[i] = (lanes[i] ^ words[i]) * factor, lanes[i] ^= lanes[i] >> 32;
+    const uint8_t *at = bytes, *end = at + length;
+    uint64_t lanes[LANES] = {sum, 1, 2, 3}, words[LANES], word;
+    for (; (size_t)(end - at) >= sizeof words; at += sizeof words) {
+        memcpy(words, at, sizeof words);
+        for (int i = 0; i < LANES; i++) lanes[i] = mixed(lanes[i], words[i]);
     }
     sum = length;
-    for (int i = 0; i < LANES; i++) sum = ((sum ^ lanes[i]) * factor) ^ (sum >> 29);
+    for (int i = 0; i < LANES; i++) sum = mixed(sum, lanes[i]);
+    for (; (size_t)(end - at) >= sizeof word; at += sizeof word) memcpy(&word, at, sizeof word), sum = mixed(sum, word);
+    for (; at != end; at++) sum = mixed(sum, *at);
     return sum;
 }

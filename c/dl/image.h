@@ -10,8 +10,8 @@ struct dwcheck_dl_bytes {
     size_t length;
 };
 
-/* Finds the program headers of an object at the beginning of its first page. Returns whether they are there; `info` has
-   what dl_iterate_phdr would say of the module, but for its counts. */
+/* Finds the program headers of an object, at the beginning of its first page. Returns whether they are there; `info`
+   has what dl_iterate_phdr would say of the module, but for its counts. */
 DWCHECK_DL_HIDDEN bool dwcheck_dl_info_of(const struct dwcheck_dl_object *object, struct dl_phdr_info *info);
 
 /* The end of the segment that has this address, as loaded, and may be read; 0 if there is none. */
@@ -27,7 +27,8 @@ DWCHECK_DL_HIDDEN struct dwcheck_dl_bytes dwcheck_dl_records_of(const struct dl_
 DWCHECK_DL_HIDDEN struct dwcheck_dl_bytes dwcheck_dl_table_of(const struct dl_phdr_info *info, const uint8_t *header);
 
 /* The build id, if a note on the module's first page has it; else of length 0. */
-DWCHECK_DL_HIDDEN struct dwcheck_dl_bytes dwcheck_dl_build_id(const struct dwcheck_dl_object *object, const struct dl_phdr_info *info);
+DWCHECK_DL_HIDDEN struct dwcheck_dl_bytes dwcheck_dl_build_id(const struct dwcheck_dl_object *object,
+                                                              const struct dl_phdr_info *info);
 
 /* Adds bytes to a checksum. */
 DWCHECK_DL_HIDDEN uint64_t dwcheck_dl_sum(uint64_t sum, const void *bytes, size_t length);

@@ -1,6 +1,6 @@
-/* Which memory a walk may read. The bounds of a thread's own stack are learned by dwcheck_dl_thread, and stay valid as long
-   as the thread runs. Of other stacks nothing is remembered from one walk to the next, since a program may unmap them:
-   the kernel is asked for their pages. */
+/* Which memory a walk may read. The bounds of a thread's own stack are learned by dwcheck_dl_thread, and stay valid
+   as long as the thread runs. Of other stacks nothing is remembered from one walk to the next, since a program may
+   unmap them: the kernel is asked for their pages. */
 #define _GNU_SOURCE
 #include "memory.h"
 #include "dwcheck-dl.h"

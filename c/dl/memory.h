@@ -8,12 +8,12 @@
 DWCHECK_DL_HIDDEN bool dwcheck_dl_is_readable(uint64_t address);
 
 /* The memory of a frame whose stack pointer is `pointer`, with `below` bytes below it if they can be read: where the
-   calling thread's own stack is known (dwcheck_dl_thread), up to its end, and else as many pages as are asked for. After
-   an overflow the stack pointer is in pages that can't be read, and the block begins above them. */
+   calling thread's own stack is known (dwcheck_dl_thread), up to its end, and else as many pages as are asked for.
+   After an overflow the stack pointer is in pages that can't be read, and the block begins above them. */
 DWCHECK_DL_HIDDEN dwcheck_block dwcheck_dl_stack_at(uint64_t pointer, uint64_t below, uint64_t pages);
 
-/* The memory from `pointer` up to the end of the thread's own stack, if it is known and has `pointer`, and else up to the end of the
-   page, which isn't asked for: it is the calling function's. */
+/* The memory from `pointer` up to the end of the thread's own stack, if it is known and has `pointer`, and else up to
+   the end of the page, which isn't asked for: it is the calling function's. */
 DWCHECK_DL_HIDDEN dwcheck_block dwcheck_dl_own_stack(uint64_t pointer);
 
 /* Whether a block goes up to the end of the thread's own stack, which is known. */
@@ -23,7 +23,8 @@ DWCHECK_DL_HIDDEN bool dwcheck_dl_is_own(const dwcheck_block *block);
    becomes one of another stack. Returns whether it has that word now and didn't before. */
 DWCHECK_DL_HIDDEN bool dwcheck_dl_extend(dwcheck_block *block, uint64_t cfa);
 
-/* Whether a block has `length` bytes at an address; if not, memory is asked for them, and the block may become another one. */
+/* Whether a block has `length` bytes at an address; if not, memory is asked for them, and the block may become
+   another one. */
 DWCHECK_DL_HIDDEN bool dwcheck_dl_has(dwcheck_block *block, uint64_t address, uint64_t length);
 
 #endif

@@ -104,7 +104,8 @@ static struct made *joined(const struct pieces *pieces) {
 }
 
 /* Makes the section of a module. Returns DWCHECK_NONE if its .debug_frame says nothing that .eh_frame doesn't. */
-static uint32_t make(struct made **made, const struct dl_phdr_info *info, struct dwcheck_dl_bytes frame, struct dwcheck_dl_bytes debug_frame) {
+static uint32_t make(struct made **made, const struct dl_phdr_info *info, struct dwcheck_dl_bytes frame,
+                     struct dwcheck_dl_bytes debug_frame) {
     struct pieces pieces = {NULL, NULL, 0, 0};
     struct code code;
     if (debug_frame.length == 0 || !find_code(info, &code)) return DWCHECK_NONE;

@@ -1,5 +1,5 @@
-/* Reads the section table of the program's own file by system calls alone, so that a signal handler may do it: gcc -static
-   links without a segment that leads to .eh_frame. */
+/* Reads the section table of the program's own file by system calls alone, so that a signal handler may do it: gcc
+   -static links without a segment that leads to .eh_frame. */
 #define _GNU_SOURCE
 #include "files.h"
 #include "prepared.h"

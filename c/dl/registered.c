@@ -1,5 +1,5 @@
-/* Code that the program has registered, in the order of its addresses. A change makes a new version, so that readers need no
-   lock. */
+/* Code that the program has registered, in the order of its addresses. A change makes a new version, so that readers
+   need no lock. */
 #include "registered.h"
 #include "dwcheck-dl.h"
 #include "retired.h"

@@ -4,8 +4,8 @@
 
 #include "caches.h"
 
-/* The beginning of a value that malloc gave and that readers reach by a pointer, which walks load after they have claimed a
-   cache. */
+/* The beginning of a value that malloc gave and that readers reach by a pointer, which walks load after they have
+   claimed a cache. */
 struct dwcheck_dl_retired {
     struct dwcheck_dl_retired *next;
     struct dwcheck_dl_moment moment;

@@ -1,5 +1,5 @@
-/* Steps of a walk that kept rows don't take: by a row with an expression, through the frame of a signal, after a call of what
-   is no function, and by frame pointers. */
+/* Steps of a walk that kept rows don't take: by a row with an expression, through the frame of a signal, after a call
+   of what is no function, and by frame pointers. */
 #define _GNU_SOURCE
 #include "memory.h"
 #include "walk.h"
@@ -25,19 +25,19 @@ static void end(struct dwcheck_dl_walk *walk, uint32_t stop) {
 /* Whether a thread was interrupted because nothing can be executed where it is: the processor says that it was to fetch
    the instruction there, from memory that isn't mapped or mustn't be executed. What it said of an earlier interruption
    stays in the context of later ones, so it must have been at the same address. */
-static bool is_nowhere(const greg_t *registers) {
+static bool is_nowhere(const uint64_t *registers) {
     enum { PAGE_FAULT = 14, OF_FETCH = 1 << 4 };
     return registers[REG_TRAPNO] == PAGE_FAULT && registers[REG_ERR] & OF_FETCH && registers[REG_CR2] == registers[REG_RIP];
 }
 
 void dwcheck_dl_go_to(struct dwcheck_dl_walk *walk, const ucontext_t *context) {
-    const greg_t *r = context->uc_mcontext.gregs;
-    const uint64_t address = (uint64_t)r[REG_RIP], pointer = (uint64_t)r[REG_RSP];
-    walk->place = (dwcheck_register_place){.address = address, .key = address + 1, .stack_pointer = pointer,
-                                           .rbx = (uint64_t)r[REG_RBX], .rbp = (uint64_t)r[REG_RBP], .r12 = (uint64_t)r[REG_R12],
-                                           .r13 = (uint64_t)r[REG_R13], .r14 = (uint64_t)r[REG_R14], .r15 = (uint64_t)r[REG_R15]};
+    uint64_t r[NGREG];
+    memcpy(r, context->uc_mcontext.gregs, sizeof r);
+    walk->place = (dwcheck_register_place){.address = r[REG_RIP], .key = r[REG_RIP] + 1, .stack_pointer = r[REG_RSP],
+                                           .rbx = r[REG_RBX], .rbp = r[REG_RBP], .r12 = r[REG_R12],
+                                           .r13 = r[REG_R13], .r14 = r[REG_R14], .r15 = r[REG_R15]};
     walk->is_nowhere = is_nowhere(r);
-    walk->stack = dwcheck_dl_stack_at(pointer, RED_ZONE, PAGES);
+    walk->stack = dwcheck_dl_stack_at(r[REG_RSP], RED_ZONE, PAGES);
 }
 
 /* Whether the code at an address is that to which signal handlers return: the system call rt_sigreturn. */
@@ -60,15 +60,16 @@ static bool leave_signal(struct dwcheck_dl_walk *walk, dwcheck_register_frame *f
 
 /* ---- rows with expressions */
 
-/* Takes a step by the row that a look-up finds. If the return address can't be read, which may be because the memory goes
-   on after the block, tries again with more memory: then the cursor has stayed where it was. */
-static uint32_t step_cursor(struct dwcheck_dl_walk *walk, const struct dwcheck_dl_module *module, dwcheck_cursor *cursor, dwcheck_frame *frame) {
+/* Takes a step by the row that a look-up finds. If the return address can't be read, which may be because the memory
+   goes on after the block, tries again with more memory: then the cursor has stayed where it was. */
+static uint32_t step_cursor(struct dwcheck_dl_walk *walk, const struct dwcheck_dl_module *module, dwcheck_cursor *cursor,
+                            dwcheck_frame *frame) {
     static const uint16_t kept[] = {3, 6, 12, 13, 14, 15};
     enum { RSP = 7 };
     const dwcheck_module section = dwcheck_dl_section_of(module);
     const dwcheck_header header = dwcheck_dl_header_of(module);
-    const dwcheck_state state = {.blocks = &walk->stack, .blocks_length = 1, .kept = kept, .kept_length = sizeof kept / sizeof *kept,
-                                 .stack_pointer = RSP, .has_stack_pointer = 1};
+    const dwcheck_state state = {.blocks = &walk->stack, .blocks_length = 1, .kept = kept,
+                                 .kept_length = sizeof kept / sizeof *kept, .stack_pointer = RSP, .has_stack_pointer = 1};
     const uint32_t stage = cursor->stage;
     dwcheck_fault fault;
     for (;;) {
@@ -138,14 +139,15 @@ static bool has_row(struct dwcheck_dl_walk *walk, uint64_t return_address) {
            && dwcheck_dl_supply(walk->cache, &walk->confirmed, return_address - 1) == DWCHECK_DONE;
 }
 
-/* Where no row says who the caller is, this library has a policy of its own: without being asked, it guesses only after a wild call. The tools
-   in Rust (rust/dwcheck-elf/src/process/without_row.rs) also guess by frame pointers and by return addresses of code without
-   rows, and mark each such frame. Addresses alone have no mark, so users would take a guess for a frame. */
+/* Where no row says who the caller is, this library has a policy of its own: without being asked, it guesses only
+   after a wild call. The tools in Rust (rust/dwcheck-elf/src/process/without_row.rs) also guess by frame pointers and
+   by return addresses of code without rows, and mark each such frame. Addresses alone have no mark, so users would
+   take a guess for a frame. */
 
-/* Whether the thread was interrupted where it has called what is no function: a null pointer, or any other address where
-   nothing can be executed. The call has pushed its return address, and done nothing else. Then goes back to the frame
-   that made the call. In place of a call there may have been a return to a wrong address: so the address must follow a
-   call, and be one of code with rows, unless it was a null pointer. */
+/* Whether the thread was interrupted where it has called what is no function: a null pointer, or any other address
+   where nothing can be executed. The call has pushed its return address, and done nothing else. Then goes back to the
+   frame that made the call. In place of a call there may have been a return to a wrong address: so the address must
+   follow a call, and be one of code with rows, unless it was a null pointer. */
 static bool leave_wild_call(struct dwcheck_dl_walk *walk) {
     dwcheck_register_place *place = &walk->place;
     const bool is_null = place->address < PAGE;
@@ -160,8 +162,8 @@ static bool leave_wild_call(struct dwcheck_dl_walk *walk) {
     return true;
 }
 
-/* Goes to the caller that rbp leads to, as in code that keeps a chain of frames: the word at rbp is the caller's rbp, and the
-   next one is the return address. */
+/* Goes to the caller that rbp leads to, as in code that keeps a chain of frames: the word at rbp is the caller's rbp,
+   and the next one is the return address. */
 static bool follow_frame_pointer(struct dwcheck_dl_walk *walk) {
     enum { MOST = 1 << 20 };
     dwcheck_register_place *place = &walk->place;

@@ -32,7 +32,8 @@ void dwcheck_dl_finish(struct dwcheck_dl_walk *walk) {
     else dwcheck_dl_release(walk->cache);
 }
 
-/* Gives the cache what is missing for a key: first the module, and then the row. If that doesn't help, no row is there. */
+/* Gives the cache what is missing for a key: first the module, and then the row. If that doesn't help, no row is
+   there. */
 static uint32_t supply(struct dwcheck_dl_walk *walk, uint64_t key) {
     enum { NEEDED = 2 };
     if (key != walk->missing) walk->missing = key, walk->tries = 0;
@@ -76,8 +77,8 @@ size_t dwcheck_dl_next(struct dwcheck_dl_walk *walk, dwcheck_register_frame *fra
         size_t more = 0;
         uint32_t stop = DWCHECK_STOP_OTHER;
         if (walk->cache != NULL)
-            dwcheck_walk_frames(&walk->cache->rows, walk->confirmed, &walk->place, &walk->stack, 1, frames + count, room - count,
-                                &more, &stop);
+            dwcheck_walk_frames(&walk->cache->rows, walk->confirmed, &walk->place, &walk->stack, 1, frames + count,
+                                room - count, &more, &stop);
         count = go_on(walk, frames, count + more, stop);
     }
     return count;
@@ -86,11 +87,15 @@ size_t dwcheck_dl_next(struct dwcheck_dl_walk *walk, dwcheck_register_frame *fra
 /* Goes on to the frame that comes after `count` others, whose addresses are known already, to have its registers. */
 static void catch_up(struct dwcheck_dl_walk *walk, size_t count) {
     dwcheck_register_frame *frames = walk->cache->found.frames;
-    while (count > 0 && !walk->is_over) count -= dwcheck_dl_next(walk, frames, count < DWCHECK_DL_FRAMES ? count : DWCHECK_DL_FRAMES);
+    while (count > 0 && !walk->is_over) {
+        const size_t wanted = count < DWCHECK_DL_FRAMES ? count : DWCHECK_DL_FRAMES;
+        count -= dwcheck_dl_next(walk, frames, wanted);
+    }
 }
 
 /* Walks by kept rows as far as they lead, from `place`. Writes the addresses, and why there are no more. */
-static size_t addresses_from(struct dwcheck_dl_walk *walk, dwcheck_place *place, void **addresses, size_t room, uint32_t *stop) {
+static size_t addresses_from(struct dwcheck_dl_walk *walk, dwcheck_place *place, void **addresses, size_t room,
+                             uint32_t *stop) {
     uint64_t *found = walk->cache->found.addresses;
     size_t count = 0, more;
     do {
@@ -98,7 +103,8 @@ static size_t addresses_from(struct dwcheck_dl_walk *walk, dwcheck_place *place,
         dwcheck_walk(&walk->cache->rows, walk->confirmed, place, &walk->stack, 1, found, wanted, &more, stop);
         memcpy(addresses + count, found, more * sizeof *found);
         count += more;
-    } while ((*stop == DWCHECK_STOP_LIMIT && count < room) || (*stop == DWCHECK_STOP_MISSING && supply(walk, place->key) == DWCHECK_DONE));
+    } while ((*stop == DWCHECK_STOP_LIMIT && count < room)
+             || (*stop == DWCHECK_STOP_MISSING && supply(walk, place->key) == DWCHECK_DONE));
     return count;
 }
 

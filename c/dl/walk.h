@@ -1,4 +1,5 @@
-/* A walk up a stack of the calling thread, by the rows of modules where they lie. It takes no lock and allocates nothing. */
+/* A walk up a stack of the calling thread, by the rows of modules where they lie. It takes no lock and allocates
+   nothing. */
 #ifndef DWCHECK_DL_WALK_H
 #define DWCHECK_DL_WALK_H
 
@@ -20,17 +21,18 @@ struct dwcheck_dl_walk {
     bool is_over;
 };
 
-/* Begins a walk at a frame of the calling function's stack, or where a signal interrupted the thread. The walk has to be ended,
-   which gives its cache back. */
+/* Begins a walk at a frame of the calling function's stack, or where a signal interrupted the thread. The walk has to
+   be ended, which gives its cache back. */
 DWCHECK_DL_HIDDEN void dwcheck_dl_start(struct dwcheck_dl_walk *walk, const dwcheck_register_place *place, uint32_t options);
 DWCHECK_DL_HIDDEN void dwcheck_dl_start_from(struct dwcheck_dl_walk *walk, const ucontext_t *context, uint32_t options);
 DWCHECK_DL_HIDDEN void dwcheck_dl_finish(struct dwcheck_dl_walk *walk);
 
-/* Goes on by some frames, and writes them. Returns how many, at most `room`, which isn't 0. It may be fewer although the walk isn't
-   over; if it is, `stop` says why. `frames` isn't on the stack that is read. */
+/* Goes on by some frames, and writes them. Returns how many, at most `room`, which isn't 0. It may be fewer although
+   the walk isn't over; if it is, `stop` says why. `frames` isn't on the stack that is read. */
 DWCHECK_DL_HIDDEN size_t dwcheck_dl_next(struct dwcheck_dl_walk *walk, dwcheck_register_frame *frames, size_t room);
 
-/* The same for addresses alone, and faster: as long as rows suffice, on the thread's own stack if its bounds are known. */
+/* The same for addresses alone, and faster: as long as rows suffice, on the thread's own stack if its bounds are
+   known. */
 DWCHECK_DL_HIDDEN size_t dwcheck_dl_pass(struct dwcheck_dl_walk *walk, void **addresses, size_t room);
 
 /* ---- frames that a kept row doesn't lead from (steps.c) */
@@ -38,9 +40,10 @@ DWCHECK_DL_HIDDEN size_t dwcheck_dl_pass(struct dwcheck_dl_walk *walk, void **ad
 /* The place where a signal interrupted a thread. */
 DWCHECK_DL_HIDDEN void dwcheck_dl_go_to(struct dwcheck_dl_walk *walk, const ucontext_t *context);
 
-/* Goes on from a frame whose row can't be kept, or from one that no row covers, or whose row can't be read for this reason.
-   Writes the frame. */
+/* Goes on from a frame whose row can't be kept, or from one that no row covers, or whose row can't be read for this
+   reason. Writes the frame. */
 DWCHECK_DL_HIDDEN void dwcheck_dl_step(struct dwcheck_dl_walk *walk, dwcheck_register_frame *frame);
-DWCHECK_DL_HIDDEN void dwcheck_dl_step_without_row(struct dwcheck_dl_walk *walk, dwcheck_register_frame *frame, uint32_t status);
+DWCHECK_DL_HIDDEN void dwcheck_dl_step_without_row(struct dwcheck_dl_walk *walk, dwcheck_register_frame *frame,
+                                                   uint32_t status);
 
 #endif

@@ -1,4 +1,5 @@
-/* For the tests of dwcheck-dl: comparisons of its stacks with those of glibc's backtrace, and a count of what is wrong. */
+/* For the tests of dwcheck-dl: comparisons of its stacks with those of glibc's backtrace, and a count of what is
+   wrong. */
 #ifndef DL_H
 #define DL_H
 

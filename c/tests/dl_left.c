@@ -1,6 +1,6 @@
-/* Tests of walks of dwcheck-dl that are interrupted at each instruction: the handler of the single step walks too, or leaves
-   the walk by siglongjmp, or a child is made by fork there. Walks that come later give glibc's frames, also when no
-   cache is left. */
+/* Tests of walks of dwcheck-dl that are interrupted at each instruction: the handler of the single step walks too, or
+   leaves the walk by siglongjmp, or a child is made by fork there. Walks that come later give glibc's frames, also
+   when no cache is left. */
 #define _GNU_SOURCE
 #include "dl.h"
 
