@@ -3,10 +3,11 @@
 #include "caches.h"
 #include "dwcheck-dl.h"
 #include "files.h"
+#include "list.h"
 
 uint32_t dwcheck_dl_update(dwcheck_dl_counts *counts) {
     if (counts != NULL) *counts = (dwcheck_dl_counts){0, 0, 0, 0};
-    return DWCHECK_DONE;
+    return dwcheck_dl_list();
 }
 
 uint32_t dwcheck_dl_module_at(uint64_t address, dwcheck_dl_loaded *module) {

@@ -2,18 +2,27 @@
 #define _GNU_SOURCE
 #include "find.h"
 #include "image.h"
+#include "list.h"
 #include "prepared.h"
 #include "registered.h"
 
 #include <dlfcn.h>
 #include <string.h>
 
-bool dwcheck_dl_find(uint64_t address, struct dwcheck_dl_object *object) {
+#if DWCHECK_DL_HAS_FIND_OBJECT
+static bool find_loaded(uint64_t address, struct dwcheck_dl_object *object) {
     struct dl_find_object found;
-    if (_dl_find_object((void *)(uintptr_t)address, &found) != 0) return dwcheck_dl_find_registered(address, object);
+    if (_dl_find_object((void *)(uintptr_t)address, &found) != 0) return false;
     *object = (struct dwcheck_dl_object){.first = (uintptr_t)found.dlfo_map_start, .end = (uintptr_t)found.dlfo_map_end,
                                          .header = found.dlfo_eh_frame, .map = found.dlfo_link_map};
     return true;
+}
+#else
+static bool find_loaded(uint64_t address, struct dwcheck_dl_object *object) { return dwcheck_dl_find_listed(address, object); }
+#endif
+
+bool dwcheck_dl_find(uint64_t address, struct dwcheck_dl_object *object) {
+    return find_loaded(address, object) || dwcheck_dl_find_registered(address, object);
 }
 
 /* A checksum of the name and the segments. */

@@ -4,6 +4,7 @@
 #define _GNU_SOURCE
 #include "memory.h"
 #include "dwcheck-dl.h"
+#include "list.h"
 
 #include <errno.h>
 #include <pthread.h>
@@ -93,7 +94,7 @@ uint32_t dwcheck_dl_thread(void) {
     own.first = low;
     __asm__ volatile("" : : : "memory");
     own.end = low + size;
-    return DWCHECK_DONE;
+    return dwcheck_dl_list();
 }
 
 static bool is_own(uint64_t address) { return address >= own.first && address < own.end; }

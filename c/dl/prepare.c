@@ -3,6 +3,7 @@
 #include "both.h"
 #include "dwcheck-dl.h"
 #include "files.h"
+#include "list.h"
 #include "prepared.h"
 #include "retired.h"
 
@@ -182,6 +183,7 @@ static void remove_gone(struct preparation *preparation) {
 uint32_t dwcheck_dl_prepare(void) {
     struct preparation preparation = {.status = DWCHECK_DONE};
     int cancel;
+    if (dwcheck_dl_list() != DWCHECK_DONE) return DWCHECK_NO_MEMORY;
     pthread_setcancelstate(PTHREAD_CANCEL_DISABLE, &cancel); /* open and close would leave with the lock held */
     pthread_mutex_lock(&lock);
     for (struct made *made = atomic_load(&all); made != NULL; made = atomic_load(&made->next)) made->is_there = false;

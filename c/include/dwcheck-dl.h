@@ -2,7 +2,8 @@
    a signal handler, after dlopen, or in a thread that was just made. It finds the modules that the loader has mapped
    (the program, its libraries, those of dlmopen, the vDSO), looks up rows in their .eh_frame sections where they lie,
    and keeps the rows for later walks. It is plain C over the calls of dwcheck.h, for x86-64 Linux with glibc 2.35 or
-   later. It is tested and not proved.
+   later. It is tested and not proved. Compiled with an older glibc or with musl, it is tested less, and walks find the
+   modules that the last dwcheck_dl_thread, dwcheck_dl_prepare or dwcheck_dl_update has listed.
 
    - Walks take no lock and allocate nothing; any thread may walk at any time, also in a signal handler that has
      interrupted another walk, and in the child of a fork. What they call is async-signal-safe: _dl_find_object of
@@ -30,8 +31,7 @@
 extern "C" {
 #endif
 
-/* ---- walks
-   --------------------------------------------------------------------------------------------------------- */
+/* ---- walks -------------------------------------------------------------------------------------------------------- */
 /* Writes the return addresses of the calling thread's stack to `addresses`, at most `size`, and returns their number.
    The first is in the function that makes the call. So it can replace backtrace of <execinfo.h>. To find the line of
    a call, look up its return address minus 1. */
@@ -86,8 +86,7 @@ uint32_t dwcheck_dl_module_at(uint64_t address, dwcheck_dl_loaded *module);
    call. */
 dwcheck_block dwcheck_dl_stack(uint64_t address);
 
-/* ---- calls outside of signal handlers, none of which is needed
-   ----------------------------------------------------- */
+/* ---- calls outside of signal handlers, none of which is needed ----------------------------------------------------- */
 /* Learns where the calling thread's own stack is, so that its walks don't ask the kernel. Call it once in each
    thread, on the thread's own stack, outside of signal handlers; it may allocate and read files. Returns
    DWCHECK_DONE; DWCHECK_NONE if the call was made on another stack; or DWCHECK_NO_MEMORY. */
@@ -115,7 +114,7 @@ uint32_t dwcheck_dl_register(uint64_t first, uint64_t last, const uint8_t *eh_fr
    registered so; or DWCHECK_NO_MEMORY. */
 uint32_t dwcheck_dl_unregister(uint64_t first);
 
-/* Does nothing and returns DWCHECK_DONE; `counts`, which may be NULL, becomes zeros. In versions before this one
+/* Does nothing (but see the beginning) and returns DWCHECK_DONE; `counts`, which may be NULL, becomes zeros. In versions before this one
    walks needed it after dlopen and dlclose; a later major version won't have it. */
 typedef struct dwcheck_dl_counts { uint32_t modules, added, removed, left_out; } dwcheck_dl_counts;
 uint32_t dwcheck_dl_update(dwcheck_dl_counts *counts);

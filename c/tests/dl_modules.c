@@ -1,9 +1,9 @@
 /* Tests of dwcheck-dl with code that comes and goes: libraries, also one in the place of another, of a namespace of
    their own, and beside threads that walk; and code that the program registers. The stacks are those of glibc's
    backtrace.
-   usage: dl_modules CALLED SMALL LARGE CALLED is a library whose function call_back(f) calls f. The other two are
-   such libraries whose functions take 128 and 4096 bytes of stack, with code and tables of the same size: so one may
-   take the place of the other. */
+   usage: dl_modules CALLED SMALL LARGE
+   CALLED is a library whose function call_back(f) calls f. The other two are such libraries whose functions take 1000
+   and 4000 bytes of stack, with code and tables of the same size: so one may take the place of the other. */
 #define _GNU_SOURCE
 #include "dl.h"
 

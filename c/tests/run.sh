@@ -1,6 +1,6 @@
 #!/bin/bash
 # Builds the tests with the static library build/libdwcheck.a, or the one that LIBRARY names, and runs
-# them: those of readers.c, frozen.c, cursor.c, cache.c, dl.c, own_rows.c, both.c and changed.c; those of
+# them: those of readers.c, frozen.c, cursor.c, cache.c, dl.c, dl_modules.c, dl_left.c, own_rows.c, both.c and changed.c; those of
 # in_place.c, kept_rows.c and kept_rows_of_stacks.c, plainly, with sanitizers and under valgrind; those of
 # wrapper.cc, as C++17, as C++20 and over the module; and those of cases.c while allocations fail in turn,
 # with sanitizers, and under valgrind. Before that, the headers are compiled as C11, C17 and C++17; passing
@@ -157,6 +157,22 @@ linked() { # FLAG..: builds a program that prints how many frames its stack has,
         [ "$("$out/linked")" = "4 frames" ]
 }
 
+# Without _dl_find_object, walks know the modules that were listed.
+by_list() {
+    mkdir -p "$out/list" && (cd "$out/list" && cc -std=gnu11 -O2 -fPIC -fasynchronous-unwind-tables -Wall -Wextra -Werror \
+        -DDWCHECK_DL_WITH_LIST "-I$top/c/include" -c "$top"/c/dl/*.c && ar rcs list.a *.o) &&
+        dl_library=$out/list/list.a linked
+}
+
+# Over the shared library, which exports what its header declares and nothing else.
+shared() {
+    local dl=$(ls "$top"/build/libdwcheck-dl.so.*.*.*) all=$(ls "$top"/build/libdwcheck.so.*.*.*)
+    ln -sf "$all" "$out/libdwcheck.so.2" && ln -sf "$dl" "$out/libdwcheck-dl.so.2" &&
+        dl_library=$dl library=$all linked "-Wl,-rpath,$out" &&
+        diff <(nm -D --defined-only "$dl" | sed -n 's/.* T \(dwcheck_[a-z_]*\).*/\1/p' | sort) \
+            <(cc -E -P "$top/c/include/dwcheck-dl.h" | grep -o 'dwcheck_dl_[a-z_]*(' | tr -d '(' | sort -u)
+}
+
 other_object() { # FLAG..: prints what both.c prints with another object of many functions that is compiled so
     {
         printf 'int through(int (*f)(void)); int through(int (*f)(void)) { return f() + 1; }\n'
@@ -249,6 +265,9 @@ test_of "stacks of dwcheck-dl are glibc's, with nothing called before" dl dl
 test_of "stacks of dwcheck-dl are glibc's, while libraries come and go" dl_modules
 test_of "stacks of dwcheck-dl are glibc's, while libraries without build ids come and go" dl_modules -Wl,--build-id=none
 test_of "walks that interrupt walks, or come after walks that were left" dl dl_left
+test_of "stacks over the shared library" shared
+test_of "a stack where modules are listed" by_list
+test_of "the header says how much stack walks take" env "LIBRARY=$library" "DL_LIBRARY=$dl_library" "$top/tools/stack_use.py"
 test_of "rows are given to the code of a module, which stays the same" rows_of_modules
 test_of "a module without attributes is compiled" modules_without_attributes
 test_of "other calls of clang stay as they are, and a failure is one line" other_words
