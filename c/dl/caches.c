@@ -52,8 +52,7 @@ static bool has(const struct dwcheck_dl_object *object, uint64_t address) {
     return address >= object->first && address < object->end;
 }
 
-/* The slot of the module that has an address, if this walk has confirmed it; else -1. */
-static int confirmed_slot(const struct dwcheck_dl_cache *cache, uint64_t confirmed, uint64_t address) {
+int dwcheck_dl_slot_of(const struct dwcheck_dl_cache *cache, uint64_t confirmed, uint64_t address) {
     for (; confirmed != 0; confirmed &= confirmed - 1) {
         const int slot = __builtin_ctzll(confirmed);
         if (has(&cache->modules[slot].object, address)) return slot;
@@ -88,8 +87,7 @@ static uint32_t slot_for(struct dwcheck_dl_cache *cache, uint64_t confirmed, con
     return *hint = (uint8_t)slot;
 }
 
-/* Gives the module that has an address a slot, and confirms it. Returns the slot, or -1 if no module has the address. */
-static int confirm(struct dwcheck_dl_cache *cache, uint64_t *confirmed, uint64_t address) {
+int dwcheck_dl_confirm(struct dwcheck_dl_cache *cache, uint64_t *confirmed, uint64_t address) {
     struct dwcheck_dl_object object;
     if (!dwcheck_dl_find(address, &object)) return -1;
     const int slot = (int)slot_for(cache, *confirmed, &object);
@@ -111,15 +109,13 @@ const struct dwcheck_dl_module *dwcheck_dl_module_of(struct dwcheck_dl_cache *ca
         dwcheck_dl_describe(&object, room);
         return room;
     }
-    int slot = confirmed_slot(cache, *confirmed, address);
-    if (slot < 0) slot = confirm(cache, confirmed, address);
+    int slot = dwcheck_dl_slot_of(cache, *confirmed, address);
+    if (slot < 0) slot = dwcheck_dl_confirm(cache, confirmed, address);
     return slot < 0 ? NULL : &cache->modules[slot];
 }
 
-uint32_t dwcheck_dl_supply(struct dwcheck_dl_cache *cache, uint64_t *confirmed, uint64_t address) {
+uint32_t dwcheck_dl_fill(struct dwcheck_dl_cache *cache, int slot, uint64_t address) {
     dwcheck_fault fault;
-    const int slot = confirmed_slot(cache, *confirmed, address);
-    if (slot < 0) return confirm(cache, confirmed, address) < 0 ? DWCHECK_NONE : DWCHECK_DONE;
     const dwcheck_module module = dwcheck_dl_section_of(&cache->modules[slot]);
     const dwcheck_header header = dwcheck_dl_header_of(&cache->modules[slot]);
     if (module.frame_length == 0) return DWCHECK_NONE;

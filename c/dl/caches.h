@@ -26,10 +26,16 @@ struct dwcheck_dl_cache {
 DWCHECK_DL_HIDDEN struct dwcheck_dl_cache *dwcheck_dl_claim(void);
 DWCHECK_DL_HIDDEN void dwcheck_dl_release(struct dwcheck_dl_cache *cache);
 
-/* Makes the cache have what it can have for an address: confirms its module for this walk, whose bit in `confirmed`
-   becomes set; or if it was confirmed already, fills in the row. Returns DWCHECK_DONE, and the walk may go on;
-   DWCHECK_NONE if no row covers the address; or why the row can't be read. */
-DWCHECK_DL_HIDDEN uint32_t dwcheck_dl_supply(struct dwcheck_dl_cache *cache, uint64_t *confirmed, uint64_t address);
+/* The slot of the module that has an address, if this walk has confirmed it; else -1. */
+DWCHECK_DL_HIDDEN int dwcheck_dl_slot_of(const struct dwcheck_dl_cache *cache, uint64_t confirmed, uint64_t address);
+
+/* Confirms the module that has an address for this walk: its bit in `confirmed` becomes set. The rows of another module
+   that had its slot are forgotten. Returns the slot, or -1 if no module has the address. */
+DWCHECK_DL_HIDDEN int dwcheck_dl_confirm(struct dwcheck_dl_cache *cache, uint64_t *confirmed, uint64_t address);
+
+/* Keeps the row of an address of a module that is confirmed. Returns DWCHECK_DONE, also if there is a row that can't be
+   kept, and walks say so; DWCHECK_NONE if no row covers the address; or why the row can't be read. */
+DWCHECK_DL_HIDDEN uint32_t dwcheck_dl_fill(struct dwcheck_dl_cache *cache, int slot, uint64_t address);
 
 /* The module of an address: that of the cache, or if it is NULL, what `room` becomes. Returns NULL if there is none. */
 DWCHECK_DL_HIDDEN const struct dwcheck_dl_module *dwcheck_dl_module_of(struct dwcheck_dl_cache *cache, uint64_t *confirmed,

@@ -139,18 +139,24 @@ static uint64_t mixed(uint64_t sum, uint64_t word) {
     return sum ^ sum >> 32;
 }
 
-/* Blocks are summed by four sums side by side, since each step of one needs the step before. */
-uint64_t dwcheck_dl_sum(uint64_t sum, const void *bytes, size_t length) {
+/* Four sums side by side, since each step of one needs the step before. Of the length the multiple of a block counts. */
+static uint64_t sum_of_blocks(uint64_t sum, const uint8_t *bytes, size_t length) {
     enum { LANES = 4 };
-    const uint8_t *at = bytes, *end = at + length;
-    uint64_t lanes[LANES] = {sum, 1, 2, 3}, words[LANES], word;
-    for (; (size_t)(end - at) >= sizeof words; at += sizeof words) {
-        memcpy(words, at, sizeof words);
+    uint64_t lanes[LANES] = {sum, 1, 2, 3}, words[LANES];
+    for (const uint8_t *end = bytes + length / sizeof words * sizeof words; bytes != end; bytes += sizeof words) {
+        memcpy(words, bytes, sizeof words);
         for (int i = 0; i < LANES; i++) lanes[i] = mixed(lanes[i], words[i]);
     }
-    sum = length;
-    for (int i = 0; i < LANES; i++) sum = mixed(sum, lanes[i]);
+    return mixed(mixed(lanes[0], lanes[1]), mixed(lanes[2], lanes[3]));
+}
+
+uint64_t dwcheck_dl_sum(uint64_t sum, const void *bytes, size_t length) {
+    enum { BLOCK = 32 };
+    const uint8_t *at = bytes, *end = at + length;
+    uint64_t word;
+    sum = mixed(sum, length);
+    if (length >= BLOCK) sum = sum_of_blocks(sum, at, length), at += length / BLOCK * BLOCK;
     for (; (size_t)(end - at) >= sizeof word; at += sizeof word) memcpy(&word, at, sizeof word), sum = mixed(sum, word);
-    for (; at != end; at++) sum = mixed(sum, *at);
-    return sum;
+    for (word = 0; at != end; at++) word = word << 8 | *at;
+    return mixed(sum, word);
 }

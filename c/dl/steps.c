@@ -40,10 +40,12 @@ void dwcheck_dl_go_to(struct dwcheck_dl_walk *walk, const ucontext_t *context) {
     walk->stack = dwcheck_dl_stack_at(r[REG_RSP], RED_ZONE, PAGES);
 }
 
-/* Whether the code at an address is that to which signal handlers return: the system call rt_sigreturn. */
-static bool is_return_of_signal(uint64_t address) {
+/* They return to the system call rt_sigreturn. */
+bool dwcheck_dl_is_return_of_signal(uint64_t address) {
     static const uint8_t code[] = {0x48, 0xc7, 0xc0, 15, 0, 0, 0, 0x0f, 0x05}; /* mov $15, %rax; syscall */
-    if (!dwcheck_dl_is_readable(address) || !dwcheck_dl_is_readable(address + sizeof code - 1)) return false;
+    const uint64_t last = address + sizeof code - 1;
+    const bool is_first = address % PAGE == 0; /* the call before it may have been the last instruction of the module */
+    if ((is_first || last / PAGE != address / PAGE) && !dwcheck_dl_is_readable(last)) return false;
     return memcmp((const void *)(uintptr_t)address, code, sizeof code) == 0;
 }
 
@@ -51,7 +53,8 @@ static bool is_return_of_signal(uint64_t address) {
    expressions, where there is one. */
 static bool leave_signal(struct dwcheck_dl_walk *walk, dwcheck_register_frame *frame) {
     const uint64_t saved = walk->place.stack_pointer;
-    if (walk->place.key != walk->place.address || !is_return_of_signal(walk->place.address)) return false;
+    if (walk->place.key != walk->place.address || !dwcheck_dl_is_readable(walk->place.address)) return false;
+    if (!dwcheck_dl_is_return_of_signal(walk->place.address)) return false;
     if (!dwcheck_dl_has(&walk->stack, saved, offsetof(ucontext_t, uc_mcontext) + sizeof(gregset_t))) return false;
     dwcheck_dl_go_to(walk, (const ucontext_t *)(uintptr_t)saved);
     frame->cfa = walk->place.stack_pointer;
@@ -133,10 +136,11 @@ static bool follows_call(uint64_t address) {
     return false;
 }
 
-/* Whether a row is for the call before a return address. The first answer may be about the module alone. */
+/* Whether a row is for the call before a return address. */
 static bool has_row(struct dwcheck_dl_walk *walk, uint64_t return_address) {
-    return walk->cache != NULL && dwcheck_dl_supply(walk->cache, &walk->confirmed, return_address - 1) == DWCHECK_DONE
-           && dwcheck_dl_supply(walk->cache, &walk->confirmed, return_address - 1) == DWCHECK_DONE;
+    if (walk->cache == NULL) return false;
+    const int slot = dwcheck_dl_confirm(walk->cache, &walk->confirmed, return_address - 1);
+    return slot >= 0 && dwcheck_dl_fill(walk->cache, slot, return_address - 1) == DWCHECK_DONE;
 }
 
 /* Where no row says who the caller is, this library has a policy of its own: without being asked, it guesses only

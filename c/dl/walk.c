@@ -8,8 +8,7 @@
 static void begin(struct dwcheck_dl_walk *walk, uint32_t options) {
     walk->cache = dwcheck_dl_claim();
     if (walk->cache == NULL) dwcheck_dl_begin_reading();
-    walk->confirmed = walk->missing = 0;
-    walk->tries = 0;
+    walk->confirmed = walk->filled = 0;
     walk->options = options;
     walk->stop = DWCHECK_STOP_LIMIT;
     walk->mark = DWCHECK_DL_BY_ROW;
@@ -32,13 +31,18 @@ void dwcheck_dl_finish(struct dwcheck_dl_walk *walk) {
     else dwcheck_dl_release(walk->cache);
 }
 
-/* Gives the cache what is missing for a key: first the module, and then the row. If that doesn't help, no row is
-   there. */
-static uint32_t supply(struct dwcheck_dl_walk *walk, uint64_t key) {
-    enum { NEEDED = 2 };
-    if (key != walk->missing) walk->missing = key, walk->tries = 0;
-    if (key == 0 || walk->tries++ == NEEDED) return DWCHECK_NONE;
-    return dwcheck_dl_supply(walk->cache, &walk->confirmed, key - 1);
+/* Gives the cache what is missing for a frame: first its module is confirmed, and if the row is still missing then, it
+   is looked up. Returns DWCHECK_DONE, and then it isn't missing any more; DWCHECK_NO_PLACE at the frame of a signal,
+   whose row needs no look-up; DWCHECK_NONE if no row covers the frame; or why the row can't be read. */
+static uint32_t supply(struct dwcheck_dl_walk *walk, uint64_t address, uint64_t key) {
+    if (key == 0) return DWCHECK_NONE;
+    const int slot = dwcheck_dl_slot_of(walk->cache, walk->confirmed, key - 1);
+    if (slot < 0)
+        return dwcheck_dl_confirm(walk->cache, &walk->confirmed, key - 1) < 0 ? DWCHECK_NONE : DWCHECK_DONE;
+    if (key == walk->filled) return DWCHECK_NONE;
+    if (key == address && dwcheck_dl_is_return_of_signal(address)) return DWCHECK_NO_PLACE;
+    walk->filled = key;
+    return dwcheck_dl_fill(walk->cache, slot, key - 1);
 }
 
 static void end(struct dwcheck_dl_walk *walk, uint32_t stop) {
@@ -54,9 +58,10 @@ static size_t go_on(struct dwcheck_dl_walk *walk, dwcheck_register_frame *frames
         return count;
     case DWCHECK_STOP_MISSING:
         if (walk->place.key == 0) break; /* a return address of 0 leads to no caller */
-        status = supply(walk, walk->place.key);
+        status = supply(walk, walk->place.address, walk->place.key);
         if (status == DWCHECK_DONE) return count;
-        dwcheck_dl_step_without_row(walk, &frames[count], status);
+        if (status == DWCHECK_NO_PLACE) dwcheck_dl_step(walk, &frames[count]);
+        else dwcheck_dl_step_without_row(walk, &frames[count], status);
         return count + 1;
     case DWCHECK_STOP_OTHER:
         dwcheck_dl_step(walk, &frames[count]);
@@ -104,7 +109,7 @@ static size_t addresses_from(struct dwcheck_dl_walk *walk, dwcheck_place *place,
         memcpy(addresses + count, found, more * sizeof *found);
         count += more;
     } while ((*stop == DWCHECK_STOP_LIMIT && count < room)
-             || (*stop == DWCHECK_STOP_MISSING && supply(walk, place->key) == DWCHECK_DONE));
+             || (*stop == DWCHECK_STOP_MISSING && supply(walk, place->address, place->key) == DWCHECK_DONE));
     return count;
 }
 
@@ -118,7 +123,7 @@ size_t dwcheck_dl_pass(struct dwcheck_dl_walk *walk, void **addresses, size_t ro
         end(walk, stop);
     } else {
         if (stop == DWCHECK_STOP_RETURN_UNREADABLE) count--; /* to see why */
-        walk->missing = 0;
+        walk->filled = 0;
         catch_up(walk, count);
     }
     return count;

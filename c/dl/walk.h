@@ -13,8 +13,7 @@ struct dwcheck_dl_walk {
     uint64_t confirmed;             /* the slots of the modules that this walk has found */
     dwcheck_register_place place;   /* the frame that comes next */
     dwcheck_block stack;            /* what may be read */
-    uint64_t missing;               /* the key for which rows were missing last, and how often */
-    uint32_t tries;
+    uint64_t filled;                /* the key whose row was looked up last */
     uint32_t options, stop;
     uint8_t mark;                   /* how the frame at `place` was found (DWCHECK_DL_BY_) */
     bool is_nowhere;                /* nothing can be executed where the frame at `place` was interrupted */
@@ -36,6 +35,9 @@ DWCHECK_DL_HIDDEN size_t dwcheck_dl_next(struct dwcheck_dl_walk *walk, dwcheck_r
 DWCHECK_DL_HIDDEN size_t dwcheck_dl_pass(struct dwcheck_dl_walk *walk, void **addresses, size_t room);
 
 /* ---- frames that a kept row doesn't lead from (steps.c) */
+
+/* Whether the code at an address, which may be read, is that to which signal handlers return. */
+DWCHECK_DL_HIDDEN bool dwcheck_dl_is_return_of_signal(uint64_t address);
 
 /* The place where a signal interrupted a thread. */
 DWCHECK_DL_HIDDEN void dwcheck_dl_go_to(struct dwcheck_dl_walk *walk, const ucontext_t *context);

@@ -173,6 +173,20 @@ shared() {
             <(cc -E -P "$top/c/include/dwcheck-dl.h" | grep -o 'dwcheck_dl_[a-z_]*(' | tr -d '(' | sort -u)
 }
 
+# The program of docs/OWN_STACKS.md, whose handler makes one call, and which makes none before, prints gdb's frames.
+handler_of_page() {
+    sed -n '/^```c$/,/^```$/p' "$top/docs/OWN_STACKS.md" | grep -v '^```' > "$out/page.c"
+    printf 'frame = gdb.newest_frame()\nwhile frame:\n    print("gdb %%#x" %% frame.pc())\n    frame = frame.older()\n' > "$out/frames.py"
+    cc -O1 -g "-I$top/c/include" "$out/page.c" "$dl_library" "$library" -o "$out/page" -pthread -ldl || return 1
+    if [ -n "${DWCHECK_NO_PTRACE:-}" ]; then
+        [ "$("$out/page" 2>&1 | grep -c '\[0x')" = 4 ]
+        return
+    fi
+    gdb -q -batch -ex 'set backtrace past-main on' -ex run -x "$out/frames.py" -ex continue "$out/page" > "$out/shown" 2>&1
+    [ "$(grep -c '^gdb 0x' "$out/shown")" = 4 ] &&
+        diff <(sed -n 's/^gdb //p' "$out/shown") <(sed -n 's/.*\[\(0x[0-9a-f]*\)\]$/\1/p' "$out/shown")
+}
+
 other_object() { # FLAG..: prints what both.c prints with another object of many functions that is compiled so
     {
         printf 'int through(int (*f)(void)); int through(int (*f)(void)) { return f() + 1; }\n'
@@ -265,6 +279,7 @@ test_of "stacks of dwcheck-dl are glibc's, with nothing called before" dl dl
 test_of "stacks of dwcheck-dl are glibc's, while libraries come and go" dl_modules
 test_of "stacks of dwcheck-dl are glibc's, while libraries without build ids come and go" dl_modules -Wl,--build-id=none
 test_of "walks that interrupt walks, or come after walks that were left" dl dl_left
+test_of "the handler of docs/OWN_STACKS.md prints gdb's stack" handler_of_page
 test_of "stacks over the shared library" shared
 test_of "a stack where modules are listed" by_list
 test_of "the header says how much stack walks take" env "LIBRARY=$library" "DL_LIBRARY=$dl_library" "$top/tools/stack_use.py"
