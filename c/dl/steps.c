@@ -7,7 +7,7 @@
 #include <signal.h>
 #include <string.h>
 
-enum { PAGE = 4096, WORD = 8, RED_ZONE = 128, PAGES = 2 };
+enum { PAGE = 4096, WORD = 8, RED_ZONE = 128, PAGES = 2, RSP = 7, RIP = 16 };
 
 static uint64_t word_at(uint64_t address) {
     uint64_t word;
@@ -68,7 +68,6 @@ static bool leave_signal(struct dwcheck_dl_walk *walk, dwcheck_register_frame *f
 static uint32_t step_cursor(struct dwcheck_dl_walk *walk, const struct dwcheck_dl_module *module, dwcheck_cursor *cursor,
                             dwcheck_frame *frame) {
     static const uint16_t kept[] = {3, 6, 12, 13, 14, 15};
-    enum { RSP = 7 };
     const dwcheck_module section = dwcheck_dl_section_of(module);
     const dwcheck_header header = dwcheck_dl_header_of(module);
     const dwcheck_state state = {.blocks = &walk->stack, .blocks_length = 1, .kept = kept,
@@ -100,7 +99,10 @@ static void step_by_row(struct dwcheck_dl_walk *walk, dwcheck_register_frame *fr
     uint32_t status = DWCHECK_NONE;
     if (walk->place.key != 0) module = dwcheck_dl_module_of(walk->cache, &walk->confirmed, walk->place.key - 1, &room);
     if (module != NULL && module->frame_length != 0) status = dwcheck_cursor_at_place(&cursor, &walk->place);
-    if (status == DWCHECK_DONE) status = step_cursor(walk, module, &cursor, &at);
+    if (status == DWCHECK_DONE) {
+        cursor.contents[RIP] = walk->place.address, cursor.known[RIP] = 1; /* rows of procedure linkage tables need it */
+        status = step_cursor(walk, module, &cursor, &at);
+    }
     if (status != DWCHECK_DONE || cursor.stage == DWCHECK_STOP_NOT_COVERED + 1) {
         dwcheck_dl_step_without_row(walk, frame, status == DWCHECK_DONE ? DWCHECK_NONE : status);
         return;

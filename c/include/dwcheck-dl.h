@@ -18,7 +18,7 @@
    - Memory is read only where it can be: the stack of a thread that has called dwcheck_dl_thread; else the kernel is
      asked about each page, in each walk. So stacks may overflow, and be those of sigaltstack, makecontext or other
      libraries.
-   - A walk takes 2.0 KB of stack where all rows are kept, and 55.0 KB where rows are looked up, as tools/stack_use.py
+   - A walk takes 1.0 KB of stack where all rows are kept, and 48.0 KB where rows are looked up, as tools/stack_use.py
      has measured.
 
    To link: cc .. $(pkg-config --cflags --libs dwcheck-dl); or by CMake, dwcheck::dl or dwcheck::dl_shared. */

@@ -5,7 +5,7 @@
 
 #include "dwcheck-dl.h"
 
-#include <execinfo.h>
+#include <dlfcn.h>
 #include <stdatomic.h>
 #include <stdio.h>
 #include <stdlib.h>
@@ -22,6 +22,15 @@ static atomic_int wrong, walks;
             printf("%d: %s is %lld, not %lld\n", __LINE__, #what, is_, want_);                       \
         }                                                                                            \
     } while (0)
+
+/* That of the C library, and not of a sanitizer. Its first call loads a library. */
+static int (*backtrace)(void **addresses, int size);
+__attribute__((constructor(101))) static void find_backtrace(void) {
+    void *one;
+    *(void **)&backtrace = dlsym(dlopen("libc.so.6", RTLD_NOW), "backtrace");
+    if (backtrace == NULL) abort();
+    backtrace(&one, 1);
+}
 
 /* The frames with registers are those of the addresses, and the CFA of each is the stack pointer of the next one. */
 __attribute__((noinline)) static void compare_frames(void **addresses, int count) {

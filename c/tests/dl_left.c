@@ -71,8 +71,6 @@ static void interrupted(void) {
 
 int main(void) {
     struct sigaction step = {.sa_sigaction = on_step, .sa_flags = SA_SIGINFO}, begin = {.sa_sigaction = on_begin, .sa_flags = SA_SIGINFO};
-    void *one;
-    backtrace(&one, 1); /* loads the library that it needs */
     sigaction(SIGTRAP, &step, NULL);
     sigaction(SIGUSR1, &begin, NULL);
     deep(5, interrupted);

@@ -7,7 +7,6 @@
 #define _GNU_SOURCE
 #include "dl.h"
 
-#include <dlfcn.h>
 #include <link.h>
 #include <malloc.h>
 #include <pthread.h>
@@ -154,9 +153,10 @@ static void test_module_at(void) {
     dwcheck_dl_loaded module;
     IS(dwcheck_dl_module_at((uintptr_t)test_module_at, &module), DWCHECK_DONE);
     IS(strcmp(module.name, "/proc/self/exe"), 0);
-    IS(dwcheck_dl_module_at((uintptr_t)qsort, &module), DWCHECK_DONE);
+    const uintptr_t in_libc = (uintptr_t)backtrace;
+    IS(dwcheck_dl_module_at(in_libc, &module), DWCHECK_DONE);
     IS(strstr(module.name, "libc") != NULL, 1);
-    IS(module.first <= (uintptr_t)qsort && (uintptr_t)qsort < module.end, 1);
+    IS(module.first <= in_libc && in_libc < module.end, 1);
     IS(dwcheck_dl_module_at(4096, &module), DWCHECK_NONE);
 }
 

@@ -168,7 +168,7 @@ by_list() {
 shared() {
     local dl=$(ls "$top"/build/libdwcheck-dl.so.*.*.*) all=$(ls "$top"/build/libdwcheck.so.*.*.*)
     ln -sf "$all" "$out/libdwcheck.so.2" && ln -sf "$dl" "$out/libdwcheck-dl.so.2" &&
-        dl_library=$dl library=$all linked "-Wl,-rpath,$out" &&
+        LD_LIBRARY_PATH=$out dl_library=$dl library=$all linked &&
         diff <(nm -D --defined-only "$dl" | sed -n 's/.* T \(dwcheck_[a-z_]*\).*/\1/p' | sort) \
             <(cc -E -P "$top/c/include/dwcheck-dl.h" | grep -o 'dwcheck_dl_[a-z_]*(' | tr -d '(' | sort -u)
 }
