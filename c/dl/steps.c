@@ -25,7 +25,7 @@ static void end(struct dwcheck_dl_walk *walk, uint32_t stop) {
 /* Whether a thread was interrupted because nothing can be executed where it is: the processor says that it was to fetch
    the instruction there, from memory that isn't mapped or mustn't be executed. What it said of an earlier interruption
    stays in the context of later ones, so it must have been at the same address. */
-static bool is_nowhere(const uint64_t *registers) {
+static bool is_nowhere(const greg_t *registers) {
     enum { PAGE_FAULT = 14, OF_FETCH = 1 << 4 };
     return registers[REG_TRAPNO] == PAGE_FAULT && registers[REG_ERR] & OF_FETCH && registers[REG_CR2] == registers[REG_RIP];
 }
@@ -36,7 +36,7 @@ void dwcheck_dl_go_to(struct dwcheck_dl_walk *walk, const ucontext_t *context) {
     walk->place = (dwcheck_register_place){.address = r[REG_RIP], .key = r[REG_RIP] + 1, .stack_pointer = r[REG_RSP],
                                            .rbx = r[REG_RBX], .rbp = r[REG_RBP], .r12 = r[REG_R12],
                                            .r13 = r[REG_R13], .r14 = r[REG_R14], .r15 = r[REG_R15]};
-    walk->is_nowhere = is_nowhere(r);
+    walk->interrupted = context->uc_mcontext.gregs;
     walk->stack = dwcheck_dl_stack_at(r[REG_RSP], RED_ZONE, PAGES);
 }
 
@@ -82,8 +82,29 @@ static uint32_t step_cursor(struct dwcheck_dl_walk *walk, const struct dwcheck_d
     }
 }
 
+/* Whether the walk is at the frame that a signal has interrupted, all of whose registers are known. */
+static bool is_interrupted(const struct dwcheck_dl_walk *walk) {
+    return walk->interrupted != NULL && walk->place.key == walk->place.address + 1
+           && (uint64_t)walk->interrupted[REG_RIP] == walk->place.address;
+}
+
+/* Places the cursor at the frame, with the registers that are known: those of a place; the instruction pointer, which
+   rows of procedure linkage tables need; and if the frame was interrupted, all of them: the CFA of code that probes a
+   large frame's pages is r11 plus an offset. */
+static uint32_t place_cursor(const struct dwcheck_dl_walk *walk, dwcheck_cursor *cursor) {
+    static const int registers[] = {REG_RAX, REG_RDX, REG_RCX, REG_RBX, REG_RSI, REG_RDI, REG_RBP, REG_RSP, REG_R8,
+                                    REG_R9,  REG_R10, REG_R11, REG_R12, REG_R13, REG_R14, REG_R15, REG_RIP};
+    const uint32_t status = dwcheck_cursor_at_place(cursor, &walk->place);
+    if (status != DWCHECK_DONE) return status;
+    cursor->contents[RIP] = walk->place.address, cursor->known[RIP] = 1;
+    if (!is_interrupted(walk)) return status;
+    for (int i = 0; i <= RIP; i++) cursor->contents[i] = (uint64_t)walk->interrupted[registers[i]], cursor->known[i] = 1;
+    return status;
+}
+
 /* Goes to where the cursor is after a step. */
 static void go_to_cursor(struct dwcheck_dl_walk *walk, const dwcheck_cursor *cursor) {
+    walk->interrupted = NULL;
     if (dwcheck_place_of_cursor(&walk->place, cursor) != DWCHECK_DONE) {
         end(walk, DWCHECK_STOP_RETURN_UNREADABLE);
         return;
@@ -98,11 +119,8 @@ static void step_by_row(struct dwcheck_dl_walk *walk, dwcheck_register_frame *fr
     const struct dwcheck_dl_module *module = NULL;
     uint32_t status = DWCHECK_NONE;
     if (walk->place.key != 0) module = dwcheck_dl_module_of(walk->cache, &walk->confirmed, walk->place.key - 1, &room);
-    if (module != NULL && module->frame_length != 0) status = dwcheck_cursor_at_place(&cursor, &walk->place);
-    if (status == DWCHECK_DONE) {
-        cursor.contents[RIP] = walk->place.address, cursor.known[RIP] = 1; /* rows of procedure linkage tables need it */
-        status = step_cursor(walk, module, &cursor, &at);
-    }
+    if (module != NULL && module->frame_length != 0) status = place_cursor(walk, &cursor);
+    if (status == DWCHECK_DONE) status = step_cursor(walk, module, &cursor, &at);
     if (status != DWCHECK_DONE || cursor.stage == DWCHECK_STOP_NOT_COVERED + 1) {
         dwcheck_dl_step_without_row(walk, frame, status == DWCHECK_DONE ? DWCHECK_NONE : status);
         return;
@@ -157,13 +175,12 @@ static bool has_row(struct dwcheck_dl_walk *walk, uint64_t return_address) {
 static bool leave_wild_call(struct dwcheck_dl_walk *walk) {
     dwcheck_register_place *place = &walk->place;
     const bool is_null = place->address < PAGE;
-    if (place->key != place->address + 1 || (!is_null && !walk->is_nowhere)) return false;
+    if (!is_interrupted(walk) || (!is_null && !is_nowhere(walk->interrupted))) return false;
     if (!dwcheck_dl_has(&walk->stack, place->stack_pointer, WORD)) return false;
     const uint64_t address = word_at(place->stack_pointer);
     if (!follows_call(address) || (!is_null && !has_row(walk, address))) return false;
     place->address = place->key = address;
     place->stack_pointer += WORD;
-    walk->is_nowhere = false;
     walk->mark = DWCHECK_DL_BY_CALL;
     return true;
 }

@@ -12,7 +12,8 @@ static void begin(struct dwcheck_dl_walk *walk, uint32_t options) {
     walk->options = options;
     walk->stop = DWCHECK_STOP_LIMIT;
     walk->mark = DWCHECK_DL_BY_ROW;
-    walk->is_nowhere = walk->is_over = false;
+    walk->interrupted = NULL;
+    walk->is_over = false;
 }
 
 void dwcheck_dl_start(struct dwcheck_dl_walk *walk, const dwcheck_register_place *place, uint32_t options) {

@@ -16,7 +16,7 @@ struct dwcheck_dl_walk {
     uint64_t filled;                /* the key whose row was looked up last */
     uint32_t options, stop;
     uint8_t mark;                   /* how the frame at `place` was found (DWCHECK_DL_BY_) */
-    bool is_nowhere;                /* nothing can be executed where the frame at `place` was interrupted */
+    const greg_t *interrupted;      /* the registers of the frame that a signal has interrupted last; NULL if none */
     bool is_over;
 };
 
