@@ -75,8 +75,8 @@ int dwcheck_dl_walk(dwcheck_dl_request *request, void **addresses, int size);
 int dwcheck_dl_frames(dwcheck_dl_request *request, dwcheck_register_frame *frames, int size);
 
 /* The module that has an address: its first address, the one after its last, what is added to an address as linked, and
-   the name of its file, which is valid until it is unloaded ("/proc/self/exe" for the program, "" for registered
-   code). Signal handlers may make the call. Returns DWCHECK_DONE; or DWCHECK_NONE if there is no such module. */
+   the name of its file, which is valid until it is unloaded ("" for registered code). Signal handlers may make the
+   call. Returns DWCHECK_DONE; or DWCHECK_NONE if there is no such module. */
 typedef struct dwcheck_dl_loaded { uint64_t first, end, load_address; const char *name; } dwcheck_dl_loaded;
 uint32_t dwcheck_dl_module_at(uint64_t address, dwcheck_dl_loaded *module);
 
