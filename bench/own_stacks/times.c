@@ -1,6 +1,7 @@
 /* What a frame of a walk takes, beside glibc's backtrace and libunwind's unw_backtrace in one process: the least of
    many walks of each kind in turn. The addresses must be glibc's.
-   usage: times [DEPTH [ROUNDS]]; or times first, which prints what the first walk of the process takes */
+   usage: times [DEPTH [ROUNDS]]; or times first, times unw, times glibc: what the first walk of the process takes, by
+   dwcheck_dl_backtrace, unw_backtrace or glibc's backtrace, and how many pages it touches for the first time */
 #define _GNU_SOURCE
 #include <dlfcn.h>
 #include <dwcheck-dl.h>
@@ -8,6 +9,7 @@
 #include <stdio.h>
 #include <stdlib.h>
 #include <string.h>
+#include <sys/resource.h>
 #include <time.h>
 
 enum { ROOM = 1024, KINDS = 5 };
@@ -73,22 +75,32 @@ static int show(const char *what) {
     return wrong != 0;
 }
 
-__attribute__((noinline)) static int first_walk(int depth) {
+static long faults(void) {
+    struct rusage usage;
+    getrusage(RUSAGE_SELF, &usage);
+    return usage.ru_minflt;
+}
+
+__attribute__((noinline)) static int first_walk(walker *walk, int depth) {
     static void *addresses[ROOM];
     volatile int result = 0;
-    if (depth > 0) return first_walk(depth - 1) + result;
+    if (depth > 0) return first_walk(walk, depth - 1) + result;
+    const long before = faults();
     const double start = now();
-    const int count = dwcheck_dl_backtrace(addresses, ROOM);
+    const int count = walk(addresses, ROOM);
     const double took = now() - start;
-    printf("%.1f us for the first walk, %d frames\n", took / 1000, count);
+    printf("%.1f us for the first walk, %d frames, %ld page faults\n", took / 1000, count, faults() - before);
     return result;
 }
 
 int main(int count, char **arguments) {
-    if (count > 1 && strcmp(arguments[1], "first") == 0) return first_walk(21);
+    const char *what = count > 1 ? arguments[1] : "";
+    *(void **)&glibc_backtrace = dlsym(dlopen("libc.so.6", RTLD_NOW), "backtrace");
+    if (strcmp(what, "first") == 0) return first_walk(dwcheck_dl_backtrace, 21);
+    if (strcmp(what, "unw") == 0) return first_walk(unw_backtrace, 21);
+    if (strcmp(what, "glibc") == 0) return first_walk(glibc_backtrace, 21);
     const int depth = count > 1 ? atoi(arguments[1]) : 21;
     rounds = count > 2 ? atoi(arguments[2]) : 400;
-    *(void **)&glibc_backtrace = dlsym(dlopen("libc.so.6", RTLD_NOW), "backtrace");
     walkers[0] = dwcheck_dl_backtrace, walkers[1] = framed, walkers[2] = unw_backtrace, walkers[3] = glibc_backtrace;
     kinds = 4;
     f0(depth);

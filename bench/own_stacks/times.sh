@@ -15,4 +15,7 @@ for _ in 1 2 3; do
     "$work/times" 21
     "$work/times" 600 100
 done
-for _ in 1 2 3 4 5 6 7 8 9 10; do "$work/times" first; done
+for call in first unw glibc; do
+    echo "$call:"
+    for _ in 1 2 3 4 5 6 7 8 9 10; do "$work/times" "$call"; done
+done
