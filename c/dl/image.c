@@ -22,7 +22,7 @@ bool dwcheck_dl_info_of(const struct dwcheck_dl_object *object, struct dl_phdr_i
         return true;
     }
     if (object->end - object->first < PAGE || object->first % PAGE != 0) return false;
-    if (!dwcheck_dl_is_readable(object->first) || memcmp(header->e_ident, ELFMAG, SELFMAG) != 0) return false;
+    if (dwcheck_dl_is_unreadable(object->first) || memcmp(header->e_ident, ELFMAG, SELFMAG) != 0) return false;
     if (header->e_ident[EI_CLASS] != ELFCLASS64 || header->e_phentsize != sizeof(ElfW(Phdr))) return false;
     size_t size = (size_t)header->e_phnum * sizeof(ElfW(Phdr));
     if (header->e_phoff % _Alignof(ElfW(Phdr)) != 0 || header->e_phoff > PAGE || size > PAGE - header->e_phoff) return false;

@@ -27,38 +27,42 @@ static bool is_in_valgrind(void) {
     return answer != 0;
 }
 
-/* Whether the first byte of a page can be read, asked so that valgrind doesn't complain: it takes what the probe below
-   reads for a mask, which must be initialized. A sandbox may refuse the call, so there its answer isn't DONE. */
-static uint32_t reads_first_byte(uint64_t page, bool *is_readable) {
+enum answer { READABLE, UNREADABLE, REFUSED };
+
+/* The answer for the first byte of a page, asked so that valgrind doesn't complain: it takes what the probe below reads
+   for a mask, which must be initialized. */
+static enum answer ask_for_byte(uint64_t page) {
     char byte;
     struct iovec here = {&byte, 1}, there = {(void *)(uintptr_t)(page * PAGE), 1};
-    ssize_t result = process_vm_readv(getpid(), &here, 1, &there, 1, 0);
-    *is_readable = result == 1;
-    return result == 1 || errno == EFAULT ? DWCHECK_DONE : DWCHECK_NONE;
+    if (process_vm_readv(getpid(), &here, 1, &there, 1, 0) == 1) return READABLE;
+    return errno == EFAULT ? UNREADABLE : REFUSED;
 }
 
-/* Whether the page with this number can be read. The kernel reads the new mask before it finds that the
-   first argument is none that it knows. So nothing changes, and the error says whether it could read. */
-static bool is_page_readable(uint64_t page) {
-    if (page == 0) return false; /* the address 0 would mean that no mask is given */
-    int before = errno;
-    bool is_read;
-    if (is_in_valgrind() && reads_first_byte(page, &is_read) == DWCHECK_DONE) {
-        errno = before;
-        return is_read;
-    }
-    long result = syscall(SYS_rt_sigprocmask, ~0, page * PAGE, NULL, 8);
-    bool is_fault = result != -1 || errno != EINVAL; /* a sandbox may refuse the call: then nothing is read */
+/* The kernel reads the new mask before it finds that the first argument is none that it knows. So nothing changes, and
+   the error says whether it could read. */
+static enum answer ask_for_mask(uint64_t page) {
+    if (syscall(SYS_rt_sigprocmask, ~0, page * PAGE, NULL, 8) != -1) return REFUSED;
+    return errno == EINVAL ? READABLE : errno == EFAULT ? UNREADABLE : REFUSED;
+}
+
+/* Whether the page with this number can be read. */
+static enum answer ask(uint64_t page) {
+    if (page == 0) return UNREADABLE; /* the address 0 would mean that no mask is given */
+    const int before = errno;
+    enum answer answer = is_in_valgrind() ? ask_for_byte(page) : REFUSED;
+    if (answer == REFUSED) answer = ask_for_mask(page);
     errno = before;
-    return !is_fault;
+    return answer;
 }
 
-bool dwcheck_dl_is_readable(uint64_t address) { return is_page_readable(address / PAGE); }
+bool dwcheck_dl_is_readable(uint64_t address) { return ask(address / PAGE) == READABLE; }
+
+bool dwcheck_dl_is_unreadable(uint64_t address) { return ask(address / PAGE) == UNREADABLE; }
 
 /* How many pages from `page` on can be read, at most `most`. */
 static uint64_t count_readable(uint64_t page, uint64_t most) {
     uint64_t count = 0;
-    while (count < most && is_page_readable(page + count)) count++;
+    while (count < most && ask(page + count) == READABLE) count++;
     return count;
 }
 

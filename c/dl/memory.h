@@ -4,8 +4,10 @@
 
 #include "find.h"
 
-/* Whether the page that has this address can be read, which the kernel is asked. */
+/* Whether the page that has this address can be read, which the kernel is asked; and whether it says that it can't. A
+   sandbox may refuse to answer. */
 DWCHECK_DL_HIDDEN bool dwcheck_dl_is_readable(uint64_t address);
+DWCHECK_DL_HIDDEN bool dwcheck_dl_is_unreadable(uint64_t address);
 
 /* The memory of a frame whose stack pointer is `pointer`, with `below` bytes below it if they can be read: where the
    calling thread's own stack is known (dwcheck_dl_thread), up to its end, and else as many pages as are asked for.

@@ -11,7 +11,7 @@
 #include <stdlib.h>
 #include <string.h>
 
-enum { FRAMES = 100, DEPTH = 30 };
+enum { FRAMES = 200, DEPTH = 30 };
 
 static atomic_int wrong, walks;
 #define IS(what, want)                                                                               \

@@ -1,9 +1,10 @@
 /* Tests of dwcheck-dl with code that comes and goes: libraries, also one in the place of another, of a namespace of
    their own, and beside threads that walk; and code that the program registers. The stacks are those of glibc's
    backtrace.
-   usage: dl_modules CALLED SMALL LARGE
+   usage: dl_modules CALLED SMALL LARGE COPY..
    CALLED is a library whose function call_back(f) calls f. The other two are such libraries whose functions take 1000
-   and 4000 bytes of stack, with code and tables of the same size: so one may take the place of the other. */
+   and 4000 bytes of stack, with code and tables of the same size: so one may take the place of the other. A COPY is one
+   of CALLED. */
 #define _GNU_SOURCE
 #include "dl.h"
 
@@ -37,6 +38,25 @@ static void test_replaced(const char *small, const char *large) {
     int replaced = 0;
     for (int i = 0; i < 4; i++) replaced += come_and_go(small) == come_and_go(large);
     IS(replaced, 4);
+}
+
+/* One stack through more libraries than a cache has places for, also again. */
+static call_back *copies[FRAMES];
+static int copy_count, copies_left;
+static void through_copies(void) {
+    if (copies_left > 0) copies[--copies_left](through_copies);
+    else compare();
+}
+
+static void test_many(char **names, int count) {
+    void *libraries[FRAMES];
+    IS(count > 64, 1);
+    for (copy_count = 0; copy_count < count && copy_count < FRAMES; copy_count++) {
+        libraries[copy_count] = dlopen(names[copy_count], RTLD_NOW);
+        copies[copy_count] = function_of(libraries[copy_count]);
+    }
+    for (int round = 0; round < 3; round++) copies_left = copy_count, through_copies();
+    while (copy_count > 0) dlclose(libraries[--copy_count]);
 }
 
 static void test_namespace(const char *name) {
@@ -166,6 +186,7 @@ int main(int argument_count, char **arguments) {
     come_and_go(arguments[1]);
     test_module_at();
     test_replaced(arguments[2], arguments[3]);
+    test_many(arguments + 4, argument_count - 4);
     test_namespace(arguments[1]);
     test_registered();
     test_threads(arguments[2], arguments[3]);

@@ -145,7 +145,8 @@ calls_back() { # LIBRARY BYTES FLAG..: a library whose function calls back, and 
 
 dl_modules() { # FLAG..: builds the tests of dwcheck-dl with libraries that are compiled so, and runs them
     build_called && calls_back small.so 1000 "$@" && calls_back large.so 4000 "$@" && build_dl dl_modules &&
-        "$out/dl_modules" "$out/called.so" "$out/small.so" "$out/large.so"
+        for i in $(seq 70); do cp "$out/called.so" "$out/copy$i.so"; done &&
+        "$out/dl_modules" "$out/called.so" "$out/small.so" "$out/large.so" "$out"/copy*.so
 }
 
 linked() { # FLAG..: builds a program that prints how many frames its stack has, with many other functions
