@@ -96,8 +96,11 @@ build/libdwcheck-dl.a: $(wildcard c/dl/*.[ch]) c/include/dwcheck.h c/include/dwc
 	@rm -f $@
 	@$(AR) rcs $@ $(patsubst c/dl/%.c,build/dl/%.o,$(wildcard c/dl/*.c))
 
+# It finds the other library in its own folder. Where libraries lie in the system's folders, it needs no RUNPATH.
+RUNPATH ?= -Wl,-rpath,'$$ORIGIN'
+
 build/libdwcheck-dl.so.$(version): build/libdwcheck-dl.a build/libdwcheck.so.$(version) c/dwcheck.map
-	$(CC) -shared -Wl,-z,defs -Wl,-z,now -Wl,-soname,libdwcheck-dl.so.$(major) -Wl,--version-script=c/dwcheck.map \
+	$(CC) -shared -Wl,-z,defs -Wl,-z,now -Wl,-soname,libdwcheck-dl.so.$(major) -Wl,--version-script=c/dwcheck.map $(RUNPATH) \
 	    -Wl,--whole-archive $< -Wl,--no-whole-archive build/libdwcheck.so.$(version) -o $@
 
 build/%.pc: c/%.pc.in FORCE | build
