@@ -158,6 +158,14 @@ linked() { # FLAG..: builds a program that prints how many frames its stack has,
         [ "$("$out/linked")" = "4 frames" ]
 }
 
+# The same with the sources of dwcheck-dl compiled so, as those of the tests are.
+dl_modules_checked() { # FLAG..
+    mkdir -p "$out/checked" && (cd "$out/checked" && rm -f ./* && cc -std=gnu11 -O1 -g -fPIC -fasynchronous-unwind-tables "$@" \
+        "-I$top/c/include" -c "$top"/c/dl/*.c && ar rcs checked.a *.o) && build_called && calls_back small.so 1000 &&
+        calls_back large.so 4000 && dl_library=$out/checked/checked.a build_dl dl_modules "$@" &&
+        "$out/dl_modules" "$out/called.so" "$out/small.so" "$out/large.so" "$out"/copy*.so
+}
+
 # Without _dl_find_object, walks know the modules that were listed.
 by_list() {
     mkdir -p "$out/list" && (cd "$out/list" && cc -std=gnu11 -O2 -fPIC -fasynchronous-unwind-tables -Wall -Wextra -Werror \
@@ -279,6 +287,8 @@ test_of "walks with kept rows up own stacks under valgrind" kept_rows_of_stacks_
 test_of "stacks of dwcheck-dl are glibc's, with nothing called before" dl dl
 test_of "stacks of dwcheck-dl are glibc's, while libraries come and go" dl_modules
 test_of "stacks of dwcheck-dl are glibc's, while libraries without build ids come and go" dl_modules -Wl,--build-id=none
+test_of "the same with TSan" dl_modules_checked -fsanitize=thread
+test_of "the same with ASan and UBSan" dl_modules_checked -fsanitize=address,undefined -fno-sanitize-recover=all
 test_of "walks that interrupt walks, or come after walks that were left" dl dl_left
 test_of "the handler of docs/OWN_STACKS.md prints gdb's stack" handler_of_page
 test_of "stacks over the shared library" shared
