@@ -117,5 +117,5 @@ int dwcheck_dl_backtrace_here(void **addresses, int size, const dwcheck_register
 
 int dwcheck_dl_backtrace_from(const void *context, void **addresses, int size) {
     dwcheck_dl_request request = {.context = context};
-    return dwcheck_dl_walk_here(&request, addresses, size, NULL);
+    return context == NULL ? 0 : dwcheck_dl_walk_here(&request, addresses, size, NULL);
 }

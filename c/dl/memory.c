@@ -38,7 +38,7 @@ static enum answer ask_for_byte(uint64_t page) {
     return errno == EFAULT ? UNREADABLE : REFUSED;
 }
 
-/* The kernel reads the new mask before it finds that the first argument is none that it knows. So nothing changes, and
+/* The kernel reads the new mask before it finds that it doesn't know the first argument. So nothing changes, and
    the error says whether it could read. */
 static enum answer ask_for_mask(uint64_t page) {
     if (syscall(SYS_rt_sigprocmask, ~0, page * PAGE, NULL, 8) != -1) return REFUSED;

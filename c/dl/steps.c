@@ -50,11 +50,10 @@ bool dwcheck_dl_is_return_of_signal(uint64_t address) {
 }
 
 /* Goes on from the frame of a signal, whose stack pointer is at what the kernel has saved. The row says the same by
-   expressions, where there is one. */
+   expressions, where there is one. The frame's address must be one that may be read. */
 static bool leave_signal(struct dwcheck_dl_walk *walk, dwcheck_register_frame *frame) {
     const uint64_t saved = walk->place.stack_pointer;
-    if (walk->place.key != walk->place.address || !dwcheck_dl_is_readable(walk->place.address)) return false;
-    if (!dwcheck_dl_is_return_of_signal(walk->place.address)) return false;
+    if (walk->place.key != walk->place.address || !dwcheck_dl_is_return_of_signal(walk->place.address)) return false;
     if (!dwcheck_dl_has(&walk->stack, saved, offsetof(ucontext_t, uc_mcontext) + sizeof(gregset_t))) return false;
     dwcheck_dl_go_to(walk, (const ucontext_t *)(uintptr_t)saved);
     frame->cfa = walk->place.stack_pointer;
@@ -204,6 +203,9 @@ static bool follow_frame_pointer(struct dwcheck_dl_walk *walk) {
 
 void dwcheck_dl_step_without_row(struct dwcheck_dl_walk *walk, dwcheck_register_frame *frame, uint32_t status) {
     *frame = (dwcheck_register_frame){.place = walk->place};
-    if (status == DWCHECK_NONE && (leave_wild_call(walk) || leave_signal(walk, frame) || follow_frame_pointer(walk))) return;
+    const bool is_code = dwcheck_dl_is_readable(walk->place.address);
+    if (status == DWCHECK_NONE
+        && (leave_wild_call(walk) || (is_code && leave_signal(walk, frame)) || follow_frame_pointer(walk)))
+        return;
     end(walk, status == DWCHECK_NONE ? DWCHECK_STOP_NOT_COVERED : DWCHECK_DL_STOP_REFUSED);
 }

@@ -18,8 +18,8 @@
    - Memory is read only where it can be: the stack of a thread that has called dwcheck_dl_thread; else the kernel is
      asked about each page, in each walk. So stacks may overflow, and be those of sigaltstack, makecontext or other
      libraries.
-   - A walk takes 1.0 KB of stack where all rows are kept, and 48.0 KB where rows are looked up, as tools/stack_use.py
-     has measured.
+   - A walk takes 1.0 KB of stack where all rows are kept, and 48.0 KB where one is looked up or has an expression, as
+     tools/stack_use.py has measured.
 
    To link: cc .. $(pkg-config --cflags --libs dwcheck-dl); or by CMake, dwcheck::dl or dwcheck::dl_shared. */
 #ifndef DWCHECK_DL_H
@@ -71,7 +71,8 @@ typedef struct dwcheck_dl_request {
 int dwcheck_dl_walk(dwcheck_dl_request *request, void **addresses, int size);
 
 /* The same, and writes each frame with its address, the contents of rsp and of the callee-saved registers, and its CFA,
-   which is 0 if it isn't known. After a frame that was guessed, only rsp and rbp of the next one are. */
+   which is 0 if it isn't known. In a frame that was found by the frame pointer, the other callee-saved registers have the
+   contents of the frame before. */
 int dwcheck_dl_frames(dwcheck_dl_request *request, dwcheck_register_frame *frames, int size);
 
 /* The module that has an address: its first address, the one after its last, what is added to an address as linked, and

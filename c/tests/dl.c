@@ -91,21 +91,24 @@ __attribute__((noinline)) static int without_end(int depth) {
     return depth == atomic_load(&walks) + INT_MAX / 2 ? 0 : without_end(depth + 1) + bytes[0];
 }
 
-static void *overflow(void *unused) {
+static void *overflow(void *is_known) {
     stack_t alternate = {.ss_sp = malloc(ALTERNATE), .ss_size = ALTERNATE}, before;
     sigaltstack(&alternate, &before);
+    if (is_known != NULL) IS(dwcheck_dl_thread(), DWCHECK_DONE);
     if (sigsetjmp(after_overflow, 1) == 0) without_end(0);
     sigaltstack(&before, NULL);
     free(alternate.ss_sp);
-    return unused;
+    return NULL;
 }
 
 static void test_overflow(void) {
     struct sigaction action = {.sa_sigaction = on_overflow, .sa_flags = SA_SIGINFO | SA_ONSTACK}, before;
     pthread_t thread;
     sigaction(SIGSEGV, &action, &before);
-    pthread_create(&thread, NULL, overflow, NULL);
-    pthread_join(thread, NULL);
+    for (int i = 0; i < 2; i++) { /* the second one knows where its stack is */
+        pthread_create(&thread, NULL, overflow, i == 0 ? NULL : &thread);
+        pthread_join(thread, NULL);
+    }
     sigaction(SIGSEGV, &before, NULL);
 }
 
