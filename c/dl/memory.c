@@ -8,6 +8,7 @@
 
 #include <errno.h>
 #include <pthread.h>
+#include <signal.h>
 #include <sys/syscall.h>
 #include <sys/uio.h>
 #include <unistd.h>
@@ -113,6 +114,16 @@ dwcheck_block dwcheck_dl_own_stack(uint64_t pointer) {
 }
 
 bool dwcheck_dl_is_own(const dwcheck_block *block) { return own.end != 0 && block->base + block->length == own.end; }
+
+uint64_t dwcheck_dl_room(void) {
+    const uint64_t here = (uintptr_t)__builtin_frame_address(0);
+    stack_t alternate = {.ss_flags = SS_DISABLE};
+    const int before = errno;
+    syscall(SYS_sigaltstack, NULL, &alternate);
+    errno = before;
+    if (alternate.ss_flags & SS_ONSTACK) return here - (uintptr_t)alternate.ss_sp;
+    return is_own(here) ? here - own.first : UINT64_MAX;
+}
 
 /* ---- blocks */
 

@@ -119,6 +119,7 @@ static void step_by_row(struct dwcheck_dl_walk *walk, dwcheck_register_frame *fr
     uint32_t status = DWCHECK_NONE;
     if (walk->place.key != 0) module = dwcheck_dl_module_of(walk->cache, &walk->confirmed, walk->place.key - 1, &room);
     if (module != NULL && module->frame_length != 0) status = place_cursor(walk, &cursor);
+    if (status == DWCHECK_DONE && !dwcheck_dl_has_room(walk)) status = DWCHECK_NO_MEMORY;
     if (status == DWCHECK_DONE) status = step_cursor(walk, module, &cursor, &at);
     if (status != DWCHECK_DONE || cursor.stage == DWCHECK_STOP_NOT_COVERED + 1) {
         dwcheck_dl_step_without_row(walk, frame, status == DWCHECK_DONE ? DWCHECK_NONE : status);
@@ -157,7 +158,7 @@ static bool follows_call(uint64_t address) {
 
 /* Whether a row is for the call before a return address. */
 static bool has_row(struct dwcheck_dl_walk *walk, uint64_t return_address) {
-    if (walk->cache == NULL) return false;
+    if (walk->cache == NULL || !dwcheck_dl_has_room(walk)) return false;
     const int slot = dwcheck_dl_confirm(walk->cache, &walk->confirmed, return_address - 1);
     return slot >= 0 && dwcheck_dl_fill(walk->cache, slot, return_address - 1) == DWCHECK_DONE;
 }
@@ -207,5 +208,7 @@ void dwcheck_dl_step_without_row(struct dwcheck_dl_walk *walk, dwcheck_register_
     if (status == DWCHECK_NONE
         && (leave_wild_call(walk) || (is_code && leave_signal(walk, frame)) || follow_frame_pointer(walk)))
         return;
-    end(walk, status == DWCHECK_NONE ? DWCHECK_STOP_NOT_COVERED : DWCHECK_DL_STOP_REFUSED);
+    end(walk, status == DWCHECK_NONE        ? DWCHECK_STOP_NOT_COVERED
+              : status == DWCHECK_NO_MEMORY ? DWCHECK_DL_STOP_STACK
+                                            : DWCHECK_DL_STOP_REFUSED);
 }

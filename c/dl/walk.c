@@ -8,7 +8,7 @@
 static void begin(struct dwcheck_dl_walk *walk, uint32_t options) {
     walk->cache = dwcheck_dl_claim();
     if (walk->cache == NULL) dwcheck_dl_begin_reading();
-    walk->confirmed = walk->filled = 0;
+    walk->confirmed = walk->filled = walk->room = 0;
     walk->options = options;
     walk->stop = DWCHECK_STOP_LIMIT;
     walk->mark = DWCHECK_DL_BY_ROW;
@@ -32,9 +32,15 @@ void dwcheck_dl_finish(struct dwcheck_dl_walk *walk) {
     else dwcheck_dl_release(walk->cache);
 }
 
+bool dwcheck_dl_has_room(struct dwcheck_dl_walk *walk) {
+    if (walk->room == 0) walk->room = dwcheck_dl_room();
+    return walk->room >= DWCHECK_DL_NEEDED;
+}
+
 /* Gives the cache what is missing for a frame: first its module is confirmed, and if the row is still missing then, it
    is looked up. Returns DWCHECK_DONE, and then it isn't missing any more; DWCHECK_NO_PLACE at the frame of a signal,
-   whose row needs no look-up; DWCHECK_NONE if no row covers the frame; or why the row can't be read. */
+   whose row needs no look-up; DWCHECK_NONE if no row covers the frame; or why the row can't be read, which is
+   DWCHECK_NO_MEMORY if the stack is too small for that. */
 static uint32_t supply(struct dwcheck_dl_walk *walk, uint64_t address, uint64_t key) {
     if (key == 0) return DWCHECK_NONE;
     const int slot = dwcheck_dl_slot_of(walk->cache, walk->confirmed, key - 1);
@@ -42,6 +48,7 @@ static uint32_t supply(struct dwcheck_dl_walk *walk, uint64_t address, uint64_t 
         return dwcheck_dl_confirm(walk->cache, &walk->confirmed, key - 1) < 0 ? DWCHECK_NONE : DWCHECK_DONE;
     if (key == walk->filled) return DWCHECK_NONE;
     if (key == address && dwcheck_dl_is_return_of_signal(address)) return DWCHECK_NO_PLACE;
+    if (!dwcheck_dl_has_room(walk)) return DWCHECK_NO_MEMORY;
     walk->filled = key;
     return dwcheck_dl_fill(walk->cache, slot, key - 1);
 }

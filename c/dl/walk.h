@@ -14,6 +14,7 @@ struct dwcheck_dl_walk {
     dwcheck_register_place place;   /* the frame that comes next */
     dwcheck_block stack;            /* what may be read */
     uint64_t filled;                /* the key whose row was looked up last */
+    uint64_t room;                  /* how much stack there is for calls; 0 if that hasn't been found out */
     uint32_t options, stop;
     uint8_t mark;                   /* how the frame at `place` was found (DWCHECK_DL_BY_) */
     const greg_t *interrupted;      /* the registers of the frame that a signal has interrupted last; NULL if none */
@@ -33,6 +34,12 @@ DWCHECK_DL_HIDDEN size_t dwcheck_dl_next(struct dwcheck_dl_walk *walk, dwcheck_r
 /* The same for addresses alone, and faster: as long as rows suffice, on the thread's own stack if its bounds are
    known. */
 DWCHECK_DL_HIDDEN size_t dwcheck_dl_pass(struct dwcheck_dl_walk *walk, void **addresses, size_t room);
+
+/* What looking up a row takes of the stack, with what is needed round it. */
+enum { DWCHECK_DL_NEEDED = 52 << 10 };
+
+/* Whether there is so much. If not, the walk ends before the stack overflows. */
+DWCHECK_DL_HIDDEN bool dwcheck_dl_has_room(struct dwcheck_dl_walk *walk);
 
 /* ---- frames that a kept row doesn't lead from (steps.c) */
 

@@ -52,10 +52,11 @@ enum { DWCHECK_DL_BY_ROW = 0, DWCHECK_DL_BY_CALL = 1, DWCHECK_DL_BY_FRAME_POINTE
 /* Options: go on where no row covers a frame, by the chain of frame pointers, as in code of JIT compilers and Go. */
 enum { DWCHECK_DL_FRAME_POINTERS = 1 };
 
-/* One more reason why a walk stops, beside DWCHECK_STOP_LIMIT, NOT_COVERED, RETURN_UNDEFINED (at the end of the
-   stack), RETURN_UNREADABLE and RETURN_DIVISION_BY_ZERO: the FDE of the last frame is refused, or needs more room
-   than there is. */
-enum { DWCHECK_DL_STOP_REFUSED = 16 };
+/* More reasons why a walk stops, beside DWCHECK_STOP_LIMIT, NOT_COVERED, RETURN_UNDEFINED (at the end of the stack),
+   RETURN_UNREADABLE and RETURN_DIVISION_BY_ZERO. REFUSED: the FDE of the last frame is refused, or needs more room than
+   there is. STACK: the alternate stack on which the walk is made (sigaltstack), or what is left of the thread's stack,
+   is too small to look up the row of the last frame. */
+enum { DWCHECK_DL_STOP_REFUSED = 16, DWCHECK_DL_STOP_STACK = 17 };
 
 /* What is asked of a walk. `context` is NULL, or as for dwcheck_dl_backtrace_from. `options` are those above. `marks`
    is NULL, or points to as many bytes as there may be frames: each becomes how the frame was found. `stop` becomes

@@ -76,6 +76,30 @@ static void test_signals(void) {
     compare();
 }
 
+/* On an alternate stack that is too small to look up rows, a walk ends before that overflows. */
+static volatile int stop_on_small, count_on_small;
+static void on_small_stack(int signal, siginfo_t *info, void *context) {
+    (void)signal, (void)info;
+    static void *addresses[FRAMES];
+    dwcheck_dl_request request = {.context = context};
+    count_on_small = dwcheck_dl_walk(&request, addresses, FRAMES);
+    stop_on_small = (int)request.stop;
+}
+
+static void test_small_stack(void) {
+    enum { SMALL = 16 << 10 };
+    struct sigaction action = {.sa_sigaction = on_small_stack, .sa_flags = SA_SIGINFO | SA_ONSTACK}, was;
+    stack_t alternate = {.ss_sp = malloc(SMALL), .ss_size = SMALL}, before;
+    sigaltstack(&alternate, &before);
+    sigaction(SIGUSR2, &action, &was);
+    raise(SIGUSR2);
+    sigaction(SIGUSR2, &was, NULL);
+    sigaltstack(&before, NULL);
+    free(alternate.ss_sp);
+    IS(count_on_small >= 1, 1);
+    IS(stop_on_small == DWCHECK_DL_STOP_STACK || stop_on_small == DWCHECK_STOP_RETURN_UNDEFINED, 1);
+}
+
 /* ---- a stack that overflows */
 
 static sigjmp_buf after_overflow;
@@ -273,6 +297,7 @@ static void test_all(void) {
 
 int main(void) {
     IS(before_main > 2, 1);
+    test_small_stack();
     test_all();
     IS(dwcheck_dl_thread(), DWCHECK_DONE);
     test_all();

@@ -29,6 +29,8 @@ pub const DL_FRAME_POINTERS: u32 = 1;
 
 /// A walk stops because the last frame's FDE is refused, or needs more room than there is.
 pub const DL_STOP_REFUSED: u32 = 16;
+/// A walk stops because the stack is too small to look up the last frame's row.
+pub const DL_STOP_STACK: u32 = 17;
 
 extern "C" {
     /// Writes the return addresses of the calling thread's stack, at most `size`, as `request` asks.
