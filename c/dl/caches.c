@@ -114,11 +114,25 @@ const struct dwcheck_dl_module *dwcheck_dl_module_of(struct dwcheck_dl_cache *ca
     return slot < 0 ? NULL : &cache->modules[slot];
 }
 
-uint32_t dwcheck_dl_fill(struct dwcheck_dl_cache *cache, int slot, uint64_t address) {
+/* A call of dwcheck_rows_fill. */
+struct fill {
+    struct dwcheck_dl_cache *cache;
+    uint64_t address;
+    int slot;
+    uint32_t status;
+};
+
+static void fill(void *data) {
+    struct fill *fill = data;
     dwcheck_fault fault;
-    const dwcheck_module module = dwcheck_dl_section_of(&cache->modules[slot]);
-    const dwcheck_header header = dwcheck_dl_header_of(&cache->modules[slot]);
-    if (module.frame_length == 0) return DWCHECK_NONE;
-    const uint32_t status = dwcheck_rows_fill(&cache->rows, (uint32_t)slot, &module, &header, address, &fault);
-    return status == DWCHECK_NO_PLACE ? DWCHECK_DONE : status;
+    const dwcheck_module module = dwcheck_dl_section_of(&fill->cache->modules[fill->slot]);
+    const dwcheck_header header = dwcheck_dl_header_of(&fill->cache->modules[fill->slot]);
+    fill->status = dwcheck_rows_fill(&fill->cache->rows, (uint32_t)fill->slot, &module, &header, fill->address, &fault);
+}
+
+uint32_t dwcheck_dl_fill(struct dwcheck_dl_cache *cache, int slot, uint64_t address, struct dwcheck_dl_room room) {
+    struct fill call = {cache, address, slot, DWCHECK_NO_MEMORY};
+    if (cache->modules[slot].frame_length == 0) return DWCHECK_NONE;
+    dwcheck_dl_call(room, fill, &call);
+    return call.status == DWCHECK_NO_PLACE ? DWCHECK_DONE : call.status;
 }

@@ -4,6 +4,7 @@
 #define DWCHECK_DL_CACHES_H
 
 #include "find.h"
+#include "room.h"
 
 enum { DWCHECK_DL_SLOTS = 64, DWCHECK_DL_CHUNK = 64, DWCHECK_DL_FRAMES = 6 };
 
@@ -34,8 +35,10 @@ DWCHECK_DL_HIDDEN int dwcheck_dl_slot_of(const struct dwcheck_dl_cache *cache, u
 DWCHECK_DL_HIDDEN int dwcheck_dl_confirm(struct dwcheck_dl_cache *cache, uint64_t *confirmed, uint64_t address);
 
 /* Keeps the row of an address of a module that is confirmed. Returns DWCHECK_DONE, also if there is a row that can't be
-   kept, and walks say so; DWCHECK_NONE if no row covers the address; or why the row can't be read. */
-DWCHECK_DL_HIDDEN uint32_t dwcheck_dl_fill(struct dwcheck_dl_cache *cache, int slot, uint64_t address);
+   kept, and walks say so; DWCHECK_NONE if no row covers the address; DWCHECK_NO_MEMORY if there isn't enough stack; or
+   why the row can't be read. */
+DWCHECK_DL_HIDDEN uint32_t dwcheck_dl_fill(struct dwcheck_dl_cache *cache, int slot, uint64_t address,
+                                           struct dwcheck_dl_room room);
 
 /* The module of an address: that of the cache, or if it is NULL, what `room` becomes. Returns NULL if there is none. */
 DWCHECK_DL_HIDDEN const struct dwcheck_dl_module *dwcheck_dl_module_of(struct dwcheck_dl_cache *cache, uint64_t *confirmed,

@@ -8,7 +8,6 @@
 
 #include <errno.h>
 #include <pthread.h>
-#include <signal.h>
 #include <sys/syscall.h>
 #include <sys/uio.h>
 #include <unistd.h>
@@ -17,8 +16,8 @@ enum { PAGE = 4096, SAVED = 1024, WORD = 8, MORE_PAGES = 2, NEAR_PAGES = 16, MOS
 
 /* ---- pages */
 
-/* Whether valgrind runs the program: then this code is a question to it, and otherwise it does nothing. */
-static bool is_in_valgrind(void) {
+/* This code is a question to valgrind, and otherwise does nothing. */
+bool dwcheck_dl_is_in_valgrind(void) {
     volatile uint64_t question[6] = {0x1001};
     uint64_t answer = 0;
     __asm__ volatile("rolq $3, %%rdi\n\trolq $13, %%rdi\n\trolq $61, %%rdi\n\trolq $51, %%rdi\n\txchgq %%rbx, %%rbx"
@@ -50,7 +49,7 @@ static enum answer ask_for_mask(uint64_t page) {
 static enum answer ask(uint64_t page) {
     if (page == 0) return UNREADABLE; /* the address 0 would mean that no mask is given */
     const int before = errno;
-    enum answer answer = is_in_valgrind() ? ask_for_byte(page) : REFUSED;
+    enum answer answer = dwcheck_dl_is_in_valgrind() ? ask_for_byte(page) : REFUSED;
     if (answer == REFUSED) answer = ask_for_mask(page);
     errno = before;
     return answer;
@@ -115,15 +114,7 @@ dwcheck_block dwcheck_dl_own_stack(uint64_t pointer) {
 
 bool dwcheck_dl_is_own(const dwcheck_block *block) { return own.end != 0 && block->base + block->length == own.end; }
 
-uint64_t dwcheck_dl_room(void) {
-    const uint64_t here = (uintptr_t)__builtin_frame_address(0);
-    stack_t alternate = {.ss_flags = SS_DISABLE};
-    const int before = errno;
-    syscall(SYS_sigaltstack, NULL, &alternate);
-    errno = before;
-    if (alternate.ss_flags & SS_ONSTACK) return here - (uintptr_t)alternate.ss_sp;
-    return is_own(here) ? here - own.first : UINT64_MAX;
-}
+uint64_t dwcheck_dl_own_below(uint64_t address) { return is_own(address) ? address - own.first : 0; }
 
 /* ---- blocks */
 

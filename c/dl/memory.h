@@ -18,9 +18,11 @@ DWCHECK_DL_HIDDEN dwcheck_block dwcheck_dl_stack_at(uint64_t pointer, uint64_t b
    the end of the page, which isn't asked for: it is the calling function's. */
 DWCHECK_DL_HIDDEN dwcheck_block dwcheck_dl_own_stack(uint64_t pointer);
 
-/* How many bytes the stack has below the calling function, if it is an alternate one, of which the kernel knows, or the
-   thread's own one whose bounds are known; else UINT64_MAX. */
-DWCHECK_DL_HIDDEN uint64_t dwcheck_dl_room(void);
+/* How many bytes the thread's own stack has below an address of it, if its bounds are known; else 0. */
+DWCHECK_DL_HIDDEN uint64_t dwcheck_dl_own_below(uint64_t address);
+
+/* Whether valgrind runs the program. */
+DWCHECK_DL_HIDDEN bool dwcheck_dl_is_in_valgrind(void);
 
 /* Whether a block goes up to the end of the thread's own stack, which is known. */
 DWCHECK_DL_HIDDEN bool dwcheck_dl_is_own(const dwcheck_block *block);

@@ -62,21 +62,36 @@ static bool leave_signal(struct dwcheck_dl_walk *walk, dwcheck_register_frame *f
 
 /* ---- rows with expressions */
 
+/* A call of dwcheck_step_in. */
+struct step {
+    const struct dwcheck_dl_module *module;
+    dwcheck_cursor *cursor;
+    const dwcheck_block *stack;
+    dwcheck_frame *frame;
+    uint32_t status;
+};
+
+static void step(void *data) {
+    static const uint16_t kept[] = {3, 6, 12, 13, 14, 15};
+    struct step *step = data;
+    dwcheck_fault fault;
+    const dwcheck_module section = dwcheck_dl_section_of(step->module);
+    const dwcheck_header header = dwcheck_dl_header_of(step->module);
+    const dwcheck_state state = {.blocks = step->stack, .blocks_length = 1, .kept = kept,
+                                 .kept_length = sizeof kept / sizeof *kept, .stack_pointer = RSP, .has_stack_pointer = 1};
+    step->status = dwcheck_step_in(&section, &header, step->cursor, &state, step->frame, &fault);
+}
+
 /* Takes a step by the row that a look-up finds. If the return address can't be read, which may be because the memory
    goes on after the block, tries again with more memory: then the cursor has stayed where it was. */
 static uint32_t step_cursor(struct dwcheck_dl_walk *walk, const struct dwcheck_dl_module *module, dwcheck_cursor *cursor,
                             dwcheck_frame *frame) {
-    static const uint16_t kept[] = {3, 6, 12, 13, 14, 15};
-    const dwcheck_module section = dwcheck_dl_section_of(module);
-    const dwcheck_header header = dwcheck_dl_header_of(module);
-    const dwcheck_state state = {.blocks = &walk->stack, .blocks_length = 1, .kept = kept,
-                                 .kept_length = sizeof kept / sizeof *kept, .stack_pointer = RSP, .has_stack_pointer = 1};
+    struct step call = {module, cursor, &walk->stack, frame, DWCHECK_NO_MEMORY};
     const uint32_t stage = cursor->stage;
-    dwcheck_fault fault;
     for (;;) {
-        uint32_t status = dwcheck_step_in(&section, &header, cursor, &state, frame, &fault);
-        if (status != DWCHECK_DONE || cursor->stage != DWCHECK_STOP_RETURN_UNREADABLE + 1) return status;
-        if (frame->cfa.kind != DWCHECK_ANSWER_VALUE || !dwcheck_dl_extend(&walk->stack, frame->cfa.value)) return status;
+        if (!dwcheck_dl_call(dwcheck_dl_room_of(walk), step, &call) || call.status != DWCHECK_DONE) return call.status;
+        if (cursor->stage != DWCHECK_STOP_RETURN_UNREADABLE + 1 || frame->cfa.kind != DWCHECK_ANSWER_VALUE) return DWCHECK_DONE;
+        if (!dwcheck_dl_extend(&walk->stack, frame->cfa.value)) return DWCHECK_DONE;
         cursor->stage = stage;
     }
 }
@@ -119,7 +134,6 @@ static void step_by_row(struct dwcheck_dl_walk *walk, dwcheck_register_frame *fr
     uint32_t status = DWCHECK_NONE;
     if (walk->place.key != 0) module = dwcheck_dl_module_of(walk->cache, &walk->confirmed, walk->place.key - 1, &room);
     if (module != NULL && module->frame_length != 0) status = place_cursor(walk, &cursor);
-    if (status == DWCHECK_DONE && !dwcheck_dl_has_room(walk)) status = DWCHECK_NO_MEMORY;
     if (status == DWCHECK_DONE) status = step_cursor(walk, module, &cursor, &at);
     if (status != DWCHECK_DONE || cursor.stage == DWCHECK_STOP_NOT_COVERED + 1) {
         dwcheck_dl_step_without_row(walk, frame, status == DWCHECK_DONE ? DWCHECK_NONE : status);
@@ -158,9 +172,9 @@ static bool follows_call(uint64_t address) {
 
 /* Whether a row is for the call before a return address. */
 static bool has_row(struct dwcheck_dl_walk *walk, uint64_t return_address) {
-    if (walk->cache == NULL || !dwcheck_dl_has_room(walk)) return false;
+    if (walk->cache == NULL) return false;
     const int slot = dwcheck_dl_confirm(walk->cache, &walk->confirmed, return_address - 1);
-    return slot >= 0 && dwcheck_dl_fill(walk->cache, slot, return_address - 1) == DWCHECK_DONE;
+    return slot >= 0 && dwcheck_dl_fill(walk->cache, slot, return_address - 1, dwcheck_dl_room_of(walk)) == DWCHECK_DONE;
 }
 
 /* Where no row says who the caller is, this library has a policy of its own: without being asked, it guesses only

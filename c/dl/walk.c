@@ -8,7 +8,8 @@
 static void begin(struct dwcheck_dl_walk *walk, uint32_t options) {
     walk->cache = dwcheck_dl_claim();
     if (walk->cache == NULL) dwcheck_dl_begin_reading();
-    walk->confirmed = walk->filled = walk->room = 0;
+    walk->confirmed = walk->filled = 0;
+    walk->has_room = false;
     walk->options = options;
     walk->stop = DWCHECK_STOP_LIMIT;
     walk->mark = DWCHECK_DL_BY_ROW;
@@ -32,9 +33,10 @@ void dwcheck_dl_finish(struct dwcheck_dl_walk *walk) {
     else dwcheck_dl_release(walk->cache);
 }
 
-bool dwcheck_dl_has_room(struct dwcheck_dl_walk *walk) {
-    if (walk->room == 0) walk->room = dwcheck_dl_room();
-    return walk->room >= DWCHECK_DL_NEEDED;
+struct dwcheck_dl_room dwcheck_dl_room_of(struct dwcheck_dl_walk *walk) {
+    if (!walk->has_room) walk->room = dwcheck_dl_room();
+    walk->has_room = true;
+    return walk->room;
 }
 
 /* Gives the cache what is missing for a frame: first its module is confirmed, and if the row is still missing then, it
@@ -48,9 +50,8 @@ static uint32_t supply(struct dwcheck_dl_walk *walk, uint64_t address, uint64_t 
         return dwcheck_dl_confirm(walk->cache, &walk->confirmed, key - 1) < 0 ? DWCHECK_NONE : DWCHECK_DONE;
     if (key == walk->filled) return DWCHECK_NONE;
     if (key == address && dwcheck_dl_is_return_of_signal(address)) return DWCHECK_NO_PLACE;
-    if (!dwcheck_dl_has_room(walk)) return DWCHECK_NO_MEMORY;
     walk->filled = key;
-    return dwcheck_dl_fill(walk->cache, slot, key - 1);
+    return dwcheck_dl_fill(walk->cache, slot, key - 1, dwcheck_dl_room_of(walk));
 }
 
 static void end(struct dwcheck_dl_walk *walk, uint32_t stop) {

@@ -4,6 +4,7 @@
 #define DWCHECK_DL_WALK_H
 
 #include "caches.h"
+#include "room.h"
 #include "dwcheck-dl.h"
 
 #include <ucontext.h>
@@ -14,7 +15,8 @@ struct dwcheck_dl_walk {
     dwcheck_register_place place;   /* the frame that comes next */
     dwcheck_block stack;            /* what may be read */
     uint64_t filled;                /* the key whose row was looked up last */
-    uint64_t room;                  /* how much stack there is for calls; 0 if that hasn't been found out */
+    struct dwcheck_dl_room room;    /* for look-ups, once has_room is set */
+    bool has_room;
     uint32_t options, stop;
     uint8_t mark;                   /* how the frame at `place` was found (DWCHECK_DL_BY_) */
     const greg_t *interrupted;      /* the registers of the frame that a signal has interrupted last; NULL if none */
@@ -27,6 +29,9 @@ DWCHECK_DL_HIDDEN void dwcheck_dl_start(struct dwcheck_dl_walk *walk, const dwch
 DWCHECK_DL_HIDDEN void dwcheck_dl_start_from(struct dwcheck_dl_walk *walk, const ucontext_t *context, uint32_t options);
 DWCHECK_DL_HIDDEN void dwcheck_dl_finish(struct dwcheck_dl_walk *walk);
 
+/* What is known of the stack on which look-ups are made. */
+DWCHECK_DL_HIDDEN struct dwcheck_dl_room dwcheck_dl_room_of(struct dwcheck_dl_walk *walk);
+
 /* Goes on by some frames, and writes them. Returns how many, at most `room`, which isn't 0. It may be fewer although
    the walk isn't over; if it is, `stop` says why. `frames` isn't on the stack that is read. */
 DWCHECK_DL_HIDDEN size_t dwcheck_dl_next(struct dwcheck_dl_walk *walk, dwcheck_register_frame *frames, size_t room);
@@ -34,12 +39,6 @@ DWCHECK_DL_HIDDEN size_t dwcheck_dl_next(struct dwcheck_dl_walk *walk, dwcheck_r
 /* The same for addresses alone, and faster: as long as rows suffice, on the thread's own stack if its bounds are
    known. */
 DWCHECK_DL_HIDDEN size_t dwcheck_dl_pass(struct dwcheck_dl_walk *walk, void **addresses, size_t room);
-
-/* What looking up a row takes of the stack, with what is needed round it. */
-enum { DWCHECK_DL_NEEDED = 52 << 10 };
-
-/* Whether there is so much. If not, the walk ends before the stack overflows. */
-DWCHECK_DL_HIDDEN bool dwcheck_dl_has_room(struct dwcheck_dl_walk *walk);
 
 /* ---- frames that a kept row doesn't lead from (steps.c) */
 

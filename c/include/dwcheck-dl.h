@@ -18,8 +18,11 @@
    - Memory is read only where it can be: the stack of a thread that has called dwcheck_dl_thread; else the kernel is
      asked about each page, in each walk. So stacks may overflow, and be those of sigaltstack, makecontext or other
      libraries.
-   - A walk takes 1.0 KB of stack where all rows are kept, and 48.0 KB where one is looked up or has an expression, as
-     tools/stack_use.py has measured.
+   - A walk takes 1.0 KB of stack where all rows are kept, and 2.0 KB where one is looked up or has an expression, as
+     tools/stack_use.py has measured. A look-up takes 48 KB more: of the thread's own or an alternate stack, if that is
+     known to have room; else of one of two stacks of the library, so an alternate stack of 8 KB suffices. If walks have
+     both, which stay in use like caches if siglongjmp leaves a walk, a stack that is known to be too small ends the
+     walk, and any other is used itself.
 
    To link: cc .. $(pkg-config --cflags --libs dwcheck-dl); or by CMake, dwcheck::dl or dwcheck::dl_shared. */
 #ifndef DWCHECK_DL_H
@@ -54,8 +57,8 @@ enum { DWCHECK_DL_FRAME_POINTERS = 1 };
 
 /* More reasons why a walk stops, beside DWCHECK_STOP_LIMIT, NOT_COVERED, RETURN_UNDEFINED (at the end of the stack),
    RETURN_UNREADABLE and RETURN_DIVISION_BY_ZERO. REFUSED: the FDE of the last frame is refused, or needs more room than
-   there is. STACK: the alternate stack on which the walk is made (sigaltstack), or what is left of the thread's stack,
-   is too small to look up the row of the last frame. */
+   there is. STACK: what is left of the stack is known to be too small to look up the row of the last frame, and other
+   walks have the stacks of the library. */
 enum { DWCHECK_DL_STOP_REFUSED = 16, DWCHECK_DL_STOP_STACK = 17 };
 
 /* What is asked of a walk. `context` is NULL, or as for dwcheck_dl_backtrace_from. `options` are those above. `marks`

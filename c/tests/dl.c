@@ -76,7 +76,7 @@ static void test_signals(void) {
     compare();
 }
 
-/* On an alternate stack that is too small to look up rows, a walk ends before that overflows. */
+/* An alternate stack that is too small to look up rows suffices, since that is done on a stack of the library. */
 static volatile int stop_on_small, count_on_small;
 static void on_small_stack(int signal, siginfo_t *info, void *context) {
     (void)signal, (void)info;
@@ -87,7 +87,7 @@ static void on_small_stack(int signal, siginfo_t *info, void *context) {
 }
 
 static void test_small_stack(void) {
-    enum { SMALL = 16 << 10 };
+    enum { SMALL = 12 << 10 };
     struct sigaction action = {.sa_sigaction = on_small_stack, .sa_flags = SA_SIGINFO | SA_ONSTACK}, was;
     stack_t alternate = {.ss_sp = malloc(SMALL), .ss_size = SMALL}, before;
     sigaltstack(&alternate, &before);
@@ -96,8 +96,8 @@ static void test_small_stack(void) {
     sigaction(SIGUSR2, &was, NULL);
     sigaltstack(&before, NULL);
     free(alternate.ss_sp);
-    IS(count_on_small >= 1, 1);
-    IS(stop_on_small == DWCHECK_DL_STOP_STACK || stop_on_small == DWCHECK_STOP_RETURN_UNDEFINED, 1);
+    IS(count_on_small > 5, 1);
+    IS(stop_on_small, DWCHECK_STOP_RETURN_UNDEFINED);
 }
 
 /* ---- a stack that overflows */

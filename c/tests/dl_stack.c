@@ -1,6 +1,6 @@
-/* Prints how much stack the calls of dwcheck-dl take, as tools/stack_use.py reads it: for walks that reach the start
-   of a thread, where each row is looked up, and where all are kept. What a call writes is found on a stack that was
-   filled with a pattern. */
+/* Prints how much stack the calls of dwcheck-dl take, as tools/stack_use.py reads it: for walks that reach the start of
+   a thread, where all rows are kept; and where rows are looked up, and one has an expression. What a call writes is
+   found on a stack that was filled with a pattern. */
 #define _GNU_SOURCE
 #include "dwcheck-dl.h"
 
@@ -36,8 +36,19 @@ __attribute__((noinline)) static void measure(void) {
     used = (size_t)(top + NEAR - at);
 }
 
+/* With gcc, the CFA of this function is an expression's. */
+static int deep(int depth);
+__attribute__((noinline)) static int realigned(int depth) {
+    volatile int aligned[16] __attribute__((aligned(64)));
+    volatile char *bytes = __builtin_alloca((size_t)depth * 16);
+    aligned[0] = bytes[0] = 0;
+    return deep(depth - 1) + aligned[0];
+}
+
+static int is_realigned;
 __attribute__((noinline)) static int deep(int depth) {
     volatile int result = 0;
+    if (depth == DEPTH && is_realigned) return realigned(depth) + result;
     if (depth > 0) return deep(depth - 1) + result;
     getcontext(&context);
     measure();
@@ -62,8 +73,12 @@ static size_t measured(void (*what)(void)) {
 static size_t most(size_t one, size_t other) { return one > other ? one : other; }
 
 int main(void) {
-    const size_t first = measured(backtraces);
-    size_t kept = measured(backtraces);
+    size_t first = measured(backtraces), kept;
+    is_realigned = 1;
+    first = most(first, measured(backtraces));
+    first = most(first, most(measured(walks_from), measured(walks_with_registers)));
+    is_realigned = 0;
+    kept = measured(backtraces);
     measured(walks_from), measured(walks_with_registers);
     kept = most(kept, most(measured(walks_from), measured(walks_with_registers)));
     printf("looked up %zu\nkept %zu\n", first, kept);

@@ -143,10 +143,14 @@ calls_back() { # LIBRARY BYTES FLAG..: a library whose function calls back, and 
         cc -O2 -fPIC -shared "$@" -x c - -o "$out/$library"
 }
 
-dl_modules() { # FLAG..: builds the tests of dwcheck-dl with libraries that are compiled so, and runs them
-    build_called && calls_back small.so 1000 "$@" && calls_back large.so 4000 "$@" && build_dl dl_modules &&
+run_dl_modules() { # FLAG..: runs the tests of libraries that come and go, with libraries that are compiled so
+    build_called && calls_back small.so 1000 "$@" && calls_back large.so 4000 "$@" &&
         for i in $(seq 70); do cp "$out/called.so" "$out/copy$i.so"; done &&
         "$out/dl_modules" "$out/called.so" "$out/small.so" "$out/large.so" "$out"/copy*.so
+}
+
+dl_modules() { # FLAG..: builds these tests, and runs them with libraries that are compiled so
+    build_dl dl_modules && run_dl_modules "$@"
 }
 
 linked() { # FLAG..: builds a program that prints how many frames its stack has, with many other functions
@@ -161,9 +165,8 @@ linked() { # FLAG..: builds a program that prints how many frames its stack has,
 # The same with the sources of dwcheck-dl compiled so, as those of the tests are.
 dl_modules_checked() { # FLAG..
     mkdir -p "$out/checked" && (cd "$out/checked" && rm -f ./* && cc -std=gnu11 -O1 -g -fPIC -fasynchronous-unwind-tables "$@" \
-        "-I$top/c/include" -c "$top"/c/dl/*.c && ar rcs checked.a *.o) && build_called && calls_back small.so 1000 &&
-        calls_back large.so 4000 && dl_library=$out/checked/checked.a build_dl dl_modules "$@" &&
-        "$out/dl_modules" "$out/called.so" "$out/small.so" "$out/large.so" "$out"/copy*.so
+        "-I$top/c/include" -c "$top"/c/dl/*.c && ar rcs checked.a *.o) &&
+        dl_library=$out/checked/checked.a build_dl dl_modules "$@" && run_dl_modules
 }
 
 # Without _dl_find_object, walks know the modules that were listed.

@@ -1,6 +1,6 @@
 /* An example program: it crashes in a thread, by a call of a null pointer, and prints the stack of that
-   thread. The handler of SIGSEGV runs on an alternate stack, and makes only calls that a signal handler may make.
-   Nothing of the library is called before. */
+   thread. The handler of SIGSEGV runs on an alternate stack of 8 KB, and makes only calls that a signal handler may
+   make. Nothing of the library is called before. */
 #define _GNU_SOURCE
 #include <dwcheck-dl.h>
 #include <pthread.h>
@@ -9,7 +9,7 @@
 #include <sys/mman.h>
 #include <unistd.h>
 
-enum { DEPTH = 10, FRAMES = 64, PAGE = 4096, ALTERNATE = 20 * PAGE };
+enum { DEPTH = 10, FRAMES = 64, PAGE = 4096, ALTERNATE = 2 * PAGE };
 
 /* ---- writing text: a line is put together here, and written by one call */
 
@@ -68,7 +68,8 @@ static void on_crash(int signal, siginfo_t *why, void *context) {
 
 /* Gives the calling thread an alternate stack for the handler, since its own stack may have no room
    left. Each thread needs one, and frees it before it ends: sigaltstack with SS_DISABLE, then munmap. If
-   the stack overflows, it meets a page that can't be used. A walk needs 55 KB at most. */
+   the stack overflows, it meets a page that can't be used. 8 KB are enough if the kernel needs at most one
+   page of them for what it saves. */
 static int prepare_thread(void) {
     size_t saved = (size_t)sysconf(_SC_MINSIGSTKSZ), size = ALTERNATE + (saved > PAGE ? saved / PAGE * PAGE : 0);
     char *bytes = mmap(NULL, PAGE + size, PROT_READ | PROT_WRITE, MAP_PRIVATE | MAP_ANONYMOUS, -1, 0);
