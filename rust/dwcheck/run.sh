@@ -8,6 +8,7 @@ DWCHECK_LIB_DIR=${DWCHECK_LIB_DIR:-$(dirname "$(dirname "$here")")/build}
 export DWCHECK_LIB_DIR
 cd "$here/../dwcheck-sys"
 ../cargo.sh test
+../cargo.sh test --features dl --lib
 cd "$here"
 ../cargo.sh test
 ../cargo.sh test --features dl --test here
