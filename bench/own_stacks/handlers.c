@@ -41,7 +41,8 @@ static int is_in(uint64_t address, const char *name) {
 
 /* The loader's first function has no rows. */
 static int is_complete(uint32_t stop, uint64_t last) {
-    return stop == DWCHECK_STOP_RETURN_UNDEFINED || (stop == DWCHECK_STOP_NOT_COVERED && is_in(last - 1, "/ld-linux-x86-64.so.2"));
+    return stop == DWCHECK_STOP_RETURN_UNDEFINED
+           || (stop == DWCHECK_STOP_NOT_COVERED && is_in(last - 1, "/ld-linux-x86-64.so.2"));
 }
 
 static int is_without_rows(uint32_t stop, uint64_t last) {
@@ -86,14 +87,17 @@ static void report(void) {
     if (atomic_exchange(&is_reported, 1)) return;
     atomic_store(&is_done, 1);
     const unsigned long others = complete + full + cut_count;
-    fprintf(stderr, "%lu walks, %lu complete, %lu met code without rows, %lu delivered an exception, %lu cut: %.3f in 100 of the others are complete\n",
-            (unsigned long)walks, (unsigned long)(complete + full), (unsigned long)jit, (unsigned long)delivering, (unsigned long)cut_count,
+    fprintf(stderr, "%lu walks, %lu complete, %lu met code without rows, %lu delivered an exception, %lu cut: ",
+            (unsigned long)walks, (unsigned long)(complete + full), (unsigned long)jit, (unsigned long)delivering,
+            (unsigned long)cut_count);
+    fprintf(stderr, "%.3f in 100 of the others are complete\n",
             others ? 100.0 * (double)(complete + full) / (double)others : 100.0);
     for (unsigned long i = 0; i < cut_count && i < CUTS; i++) {
         Dl_info info = {0};
         dladdr((void *)(uintptr_t)(cuts[i].last - 1), &info);
-        fprintf(stderr, "    cut at %#lx (%s+%#lx %s), from %#lx: stop %u\n", cuts[i].last, info.dli_fname ? info.dli_fname : "?",
-                cuts[i].last - (uint64_t)(uintptr_t)info.dli_fbase, info.dli_sname ? info.dli_sname : "?", cuts[i].first, cuts[i].stop);
+        fprintf(stderr, "    cut at %#lx (%s+%#lx), from %#lx: stop %u\n", cuts[i].last,
+                info.dli_fname ? info.dli_fname : "?", cuts[i].last - (uint64_t)(uintptr_t)info.dli_fbase, cuts[i].first,
+                cuts[i].stop);
     }
 }
 

@@ -28,7 +28,7 @@ walked() { # NAME COMMAND..: runs a command with the handler
 g++ -O1 "$here/throws.cc" -o throws && walked C++ ./throws
 walked sqlite3 sqlite3 :memory: 'with recursive n(i) as (select 1 union all select i + 1 from n limit 4000000) select sum(i * 7 % 11) from n group by i % 13;'
 walked python3 /usr/bin/python3 -c 'import json, re
-for i in range(30000): re.sub("[0-9]+", lambda m: m[0] + "x", json.dumps({"a": [i] * 9}))'
+for i in range(300000): re.sub("[0-9]+", lambda m: m[0] + "x", json.dumps({"a": [i] * 9}))'
 WITHOUT_ROWS=/node walked node node -e 'let end = Date.now() + 3000, n = 0; while (Date.now() < end) n += JSON.stringify({a: [n, n]}).length; console.log(n > 0)'
 javac -d . "$here/Numbers.java" 2> err.txt && walked java java -cp . Numbers
 (cd "$work" && cp "$here/calls_c.go" . && CGO_ENABLED=1 GOCACHE=$work/go go build -o calls_c calls_c.go 2> err.txt) &&

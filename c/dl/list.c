@@ -6,7 +6,9 @@
 
 uint32_t dwcheck_dl_list(void) { return DWCHECK_DONE; }
 
-bool dwcheck_dl_find_listed(uint64_t address, struct dwcheck_dl_object *object) { return (void)address, (void)object, false; }
+bool dwcheck_dl_find_listed(uint64_t address, struct dwcheck_dl_object *object) {
+    return (void)address, (void)object, false;
+}
 
 #else
 
@@ -64,7 +66,10 @@ static int add_module(struct dl_phdr_info *info, size_t size, void *data) {
     if (list->count == list->room) return 1; /* another one has come since they were counted; the next list has it */
     struct listed *listed = &list->modules[list->count];
     *listed = (struct listed){.map = {.l_addr = info->dlpi_addr, .l_name = listed->name}};
-    if (list->count > 0) strncpy(listed->name, info->dlpi_name, sizeof listed->name - 1), listed->map.l_prev = &list->modules[0].map;
+    if (list->count > 0) {
+        strncpy(listed->name, info->dlpi_name, sizeof listed->name - 1);
+        listed->map.l_prev = &list->modules[0].map;
+    }
     set_object(&listed->object, info);
     listed->object.map = &listed->map;
     list->count++;
@@ -88,8 +93,10 @@ uint32_t dwcheck_dl_list(void) {
 
 bool dwcheck_dl_find_listed(uint64_t address, struct dwcheck_dl_object *object) {
     const struct list *list = atomic_load(&newest);
-    for (size_t i = 0; list != NULL && i < list->count; i++)
-        if (address >= list->modules[i].object.first && address < list->modules[i].object.end) return *object = list->modules[i].object, true;
+    for (size_t i = 0; list != NULL && i < list->count; i++) {
+        const struct dwcheck_dl_object *listed = &list->modules[i].object;
+        if (address >= listed->first && address < listed->end) return *object = *listed, true;
+    }
     return false;
 }
 

@@ -109,7 +109,7 @@ static dwcheck_block up_to(uint64_t first, uint64_t end) {
 
 dwcheck_block dwcheck_dl_own_stack(uint64_t pointer) {
     if (is_own(pointer)) return up_to(pointer, own.end);
-    return up_to(pointer, (pointer | (PAGE - 1)) + 1);
+    return up_to(pointer, ((pointer - 1) | (PAGE - 1)) + 1); /* below `pointer` is the return address of a call just made */
 }
 
 bool dwcheck_dl_is_own(const dwcheck_block *block) { return own.end != 0 && block->base + block->length == own.end; }

@@ -39,7 +39,8 @@ struct dwcheck_dl_room dwcheck_dl_room(void) {
 /* A handler on the alternate stack that came now would begin at the top of that stack, since the stack pointer isn't
    there: so signals wait, but for those that an instruction causes. Returns the mask from before. */
 static uint64_t block_signals(void) {
-    static const uint64_t caused = 1 << (SIGSEGV - 1) | 1 << (SIGBUS - 1) | 1 << (SIGILL - 1) | 1 << (SIGFPE - 1) | 1 << (SIGTRAP - 1);
+    static const uint64_t caused =
+        1 << (SIGSEGV - 1) | 1 << (SIGBUS - 1) | 1 << (SIGILL - 1) | 1 << (SIGFPE - 1) | 1 << (SIGTRAP - 1);
     const uint64_t blocked = ~caused;
     uint64_t before = 0;
     syscall(SYS_rt_sigprocmask, SIG_BLOCK, &blocked, &before, sizeof before);

@@ -119,8 +119,8 @@ uint32_t dwcheck_dl_register(uint64_t first, uint64_t last, const uint8_t *eh_fr
    registered so; or DWCHECK_NO_MEMORY. */
 uint32_t dwcheck_dl_unregister(uint64_t first);
 
-/* Does nothing (but see the beginning) and returns DWCHECK_DONE; `counts`, which may be NULL, becomes zeros. In versions before this one
-   walks needed it after dlopen and dlclose; a later major version won't have it. */
+/* Does nothing (but see the beginning) and returns DWCHECK_DONE; `counts`, which may be NULL, becomes zeros. In versions
+   before this one walks needed it after dlopen and dlclose; a later major version won't have it. */
 typedef struct dwcheck_dl_counts { uint32_t modules, added, removed, left_out; } dwcheck_dl_counts;
 uint32_t dwcheck_dl_update(dwcheck_dl_counts *counts);
 
