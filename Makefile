@@ -24,7 +24,7 @@ INSTALL ?= install
 version := 2.0.0
 major := 2
 kit = $(dir $(shell rt doc))
-built := build/dwcheck build/libdwcheck.a build/libdwcheck.so.$(version) build/libdwcheck-dl.a build/dwcheck.pc build/dwcheck-dl.pc
+built := build/dwcheck build/libdwcheck.a build/libdwcheck.so.$(version) build/libdwcheck-dl.a build/libdwcheck-dl.so.$(version) build/dwcheck.pc build/dwcheck-dl.pc
 pages := $(patsubst man/%.md,build/man/%,$(wildcard man/*.md))
 
 .PHONY: all try test packages dist install clean FORCE
@@ -86,7 +86,7 @@ build/libdwcheck.so.$(version): build/libdwcheck.a c/dwcheck.map
 	$(CC) -shared -Wl,-z,defs -Wl,-z,now -Wl,-soname,libdwcheck.so.$(major) -Wl,--version-script=c/dwcheck.map \
 	    -Wl,--whole-archive $< -Wl,--no-whole-archive -o $@
 
-# The library that finds the modules of the running process. It is plain C, and has rows for itself.
+# The library that walks stacks of the running process. It is plain C, and has rows for itself.
 build/libdwcheck-dl.a: $(wildcard c/dl/*.[ch]) c/include/dwcheck.h c/include/dwcheck-dl.h | build
 	@mkdir -p build/dl
 	@for source in c/dl/*.c; do \
@@ -95,6 +95,13 @@ build/libdwcheck-dl.a: $(wildcard c/dl/*.[ch]) c/include/dwcheck.h c/include/dwc
 	done
 	@rm -f $@
 	@$(AR) rcs $@ $(patsubst c/dl/%.c,build/dl/%.o,$(wildcard c/dl/*.c))
+
+# It finds the other library in its own folder. Where libraries lie in the system's folders, it needs no RUNPATH.
+RUNPATH ?= -Wl,-rpath,'$$ORIGIN'
+
+build/libdwcheck-dl.so.$(version): build/libdwcheck-dl.a build/libdwcheck.so.$(version) c/dwcheck.map
+	$(CC) -shared -Wl,-z,defs -Wl,-z,now -Wl,-soname,libdwcheck-dl.so.$(major) -Wl,--version-script=c/dwcheck.map $(RUNPATH) \
+	    -Wl,--whole-archive $< -Wl,--no-whole-archive build/libdwcheck.so.$(version) -o $@
 
 build/%.pc: c/%.pc.in FORCE | build
 	@sed -e 's|@PREFIX@|$(PREFIX)|' -e 's|@LIBDIR@|$(patsubst $(PREFIX)/%,$${prefix}/%,$(LIBDIR))|' \
@@ -125,10 +132,12 @@ install: all
 	$(INSTALL) -m 755 build/dwcheck $(DESTDIR)$(BINDIR)/
 	if [ -f build/dwcheck-elf ]; then $(INSTALL) -m 755 build/dwcheck-elf $(DESTDIR)$(BINDIR)/; fi
 	$(INSTALL) -m 644 build/libdwcheck.a $(DESTDIR)$(LIBDIR)/
-	$(INSTALL) -m 755 build/libdwcheck.so.$(version) $(DESTDIR)$(LIBDIR)/
-	ln -sf libdwcheck.so.$(version) $(DESTDIR)$(LIBDIR)/libdwcheck.so.$(major)
-	ln -sf libdwcheck.so.$(major) $(DESTDIR)$(LIBDIR)/libdwcheck.so
 	$(INSTALL) -m 644 build/libdwcheck-dl.a $(DESTDIR)$(LIBDIR)/
+	for name in libdwcheck libdwcheck-dl; do \
+	    $(INSTALL) -m 755 build/$$name.so.$(version) $(DESTDIR)$(LIBDIR)/ && \
+	    ln -sf $$name.so.$(version) $(DESTDIR)$(LIBDIR)/$$name.so.$(major) && \
+	    ln -sf $$name.so.$(major) $(DESTDIR)$(LIBDIR)/$$name.so || exit 1; \
+	done
 	$(INSTALL) -m 644 build/dwcheck.pc build/dwcheck-dl.pc $(DESTDIR)$(LIBDIR)/pkgconfig/
 	$(INSTALL) -m 644 c/dwcheckConfig.cmake $(DESTDIR)$(LIBDIR)/cmake/dwcheck/
 	sed 's/@VERSION@/$(version)/' c/dwcheckConfigVersion.cmake.in >$(DESTDIR)$(LIBDIR)/cmake/dwcheck/dwcheckConfigVersion.cmake

@@ -1,7 +1,7 @@
 # find_package(dwcheck 2) gives the targets dwcheck::dwcheck, the archive that has everything, and
-# dwcheck::dl, which finds the modules of the running process. A shared library that has an archive doesn't
-# export its names. It works wherever the folder that has lib/
-# and include/ is.
+# dwcheck::dl, which walks stacks of the running process; and the same as shared libraries,
+# dwcheck::shared and dwcheck::dl_shared. A shared library of the user's that has an archive doesn't
+# export its names. It works wherever the folder that has lib/ and include/ is.
 get_filename_component(_dwcheck_lib "${CMAKE_CURRENT_LIST_DIR}/../.." REALPATH)
 get_filename_component(_dwcheck_prefix "${_dwcheck_lib}/.." ABSOLUTE)
 if(NOT EXISTS "${_dwcheck_prefix}/include/dwcheck.h") # lib/x86_64-linux-gnu of Debian
@@ -17,6 +17,16 @@ if(NOT TARGET dwcheck::dwcheck)
   set_target_properties(dwcheck::dl PROPERTIES
     IMPORTED_LOCATION "${_dwcheck_lib}/libdwcheck-dl.a"
     INTERFACE_LINK_LIBRARIES "dwcheck::dwcheck;${CMAKE_DL_LIBS};pthread")
+endif()
+if(NOT TARGET dwcheck::shared AND EXISTS "${_dwcheck_lib}/libdwcheck.so")
+  add_library(dwcheck::shared SHARED IMPORTED)
+  set_target_properties(dwcheck::shared PROPERTIES
+    IMPORTED_LOCATION "${_dwcheck_lib}/libdwcheck.so"
+    INTERFACE_INCLUDE_DIRECTORIES "${_dwcheck_prefix}/include")
+  add_library(dwcheck::dl_shared SHARED IMPORTED)
+  set_target_properties(dwcheck::dl_shared PROPERTIES
+    IMPORTED_LOCATION "${_dwcheck_lib}/libdwcheck-dl.so"
+    INTERFACE_LINK_LIBRARIES "dwcheck::shared")
 endif()
 unset(_dwcheck_lib)
 unset(_dwcheck_prefix)

@@ -12,7 +12,7 @@ name=dwcheck-$version-x86_64-linux
 out=build/dist/$name
 
 [ -z "$(git status --porcelain)" ] || { echo "the tree has changes that aren't committed" >&2; exit 1; }
-for file in dwcheck dwcheck-elf libdwcheck.a "libdwcheck.so.$version" libdwcheck-dl.a man/dwcheck.1 man/dwcheck-elf.1 man/dwcheck.3; do
+for file in dwcheck dwcheck-elf libdwcheck.a "libdwcheck.so.$version" libdwcheck-dl.a "libdwcheck-dl.so.$version" man/dwcheck.1 man/dwcheck-elf.1 man/dwcheck.3; do
     [ -f "build/$file" ] || { echo "build/$file isn't there: run make first" >&2; exit 1; }
 done
 
@@ -90,9 +90,11 @@ rm -rf build/dist
 put_program dwcheck
 put_program dwcheck-elf
 put 644 lib build/libdwcheck.a build/libdwcheck-dl.a
-put 755 lib "build/libdwcheck.so.$version"
-ln -s "libdwcheck.so.$version" "$out/lib/libdwcheck.so.2"
-ln -s libdwcheck.so.2 "$out/lib/libdwcheck.so"
+for library in libdwcheck libdwcheck-dl; do
+    put 755 lib "build/$library.so.$version"
+    ln -s "$library.so.$version" "$out/lib/$library.so.2"
+    ln -s "$library.so.2" "$out/lib/$library.so"
+done
 put 644 include c/include/dwcheck.h c/include/dwcheck.hpp c/include/dwcheck.cppm c/include/dwcheck-dl.h
 install -d "$out/lib/pkgconfig"
 relocatable dwcheck

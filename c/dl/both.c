@@ -100,9 +100,9 @@ static uint64_t put_record(struct output *output, const dwcheck_module *other, c
     return place;
 }
 
-/* Whether an FDE of .debug_frame may be one of code that is there: of code from `first` to `last`, but not of address 0,
-   to which linkers move the FDEs of functions that they dropped. In many modules no code begins there, but the segment
-   with the code does. */
+/* Whether an FDE of .debug_frame may be one of code that is there: of code from `first` to `last`, but not of address
+   0, to which linkers move the FDEs of functions that they dropped. In many modules no code begins there, but the
+   segment with the code does. */
 static int is_of_code(const struct record *record, uint64_t first, uint64_t last) {
     return record->kind == DWCHECK_RECORD_FDE && record->start != 0 && record->start < record->end && record->start >= first
            && record->end - 1 <= last;
@@ -151,5 +151,44 @@ uint32_t dwcheck_dl_both(const dwcheck_module *module, const dwcheck_module *oth
     }
     free(covered.first);
     free(others.first);
+    return status;
+}
+
+/* Whether a difference fits the four bytes that a table has for it. */
+static int fits(uint64_t difference) { return (int64_t)difference == (int32_t)difference; }
+
+/* Writes the table of FDEs, which are in the order of their addresses: each address and where the record is, both
+   from `from` on. Returns 0 if one doesn't fit. */
+static int write_table(uint8_t *bytes, const struct records *fdes, uint64_t from) {
+    enum { FIXED = 12, ENTRY = 8 };
+    static const uint8_t encodings[] = {1, 0x1b, 3, 0x3b};
+    const int32_t to_section = -4; /* the section is at the header's own address, as far as its table is read */
+    const uint32_t count = (uint32_t)fdes->count;
+    memcpy(bytes, encodings, sizeof encodings);
+    memcpy(bytes + 4, &to_section, sizeof to_section);
+    memcpy(bytes + 8, &count, sizeof count);
+    for (size_t i = 0; i < fdes->count; i++) {
+        const uint64_t start = fdes->first[i].start - from, offset = fdes->first[i].offset;
+        if (!fits(start) || !fits(offset)) return 0;
+        const int32_t entry[] = {(int32_t)start, (int32_t)offset};
+        memcpy(bytes + FIXED + i * ENTRY, entry, sizeof entry);
+    }
+    return 1;
+}
+
+uint32_t dwcheck_dl_table(const dwcheck_module *module, uint8_t **bytes, size_t *length) {
+    struct records records = {NULL, 0, 0};
+    uint32_t status = read_records(module, &records);
+    *bytes = NULL, *length = 0;
+    if (status == DWCHECK_DONE) {
+        sort_by_address(&records);
+        *length = 12 + 8 * records.count;
+        *bytes = malloc(*length);
+        if (*bytes == NULL) status = DWCHECK_NO_MEMORY;
+        else if (!write_table(*bytes, &records, module->section_address)) free(*bytes), *bytes = NULL, *length = 0;
+    } else if (status != DWCHECK_NO_MEMORY) {
+        status = DWCHECK_NONE;
+    }
+    free(records.first);
     return status;
 }

@@ -13,4 +13,10 @@ __attribute__((visibility("hidden")))
 uint32_t dwcheck_dl_both(const dwcheck_module *module, const dwcheck_module *other, uint64_t first, uint64_t last,
                          uint8_t **bytes, size_t *length);
 
+/* Writes the search table of an .eh_frame section, as linkers write .eh_frame_hdr, for a header that lies at the
+   section's own address as linked. Returns DWCHECK_DONE, and then the caller frees `bytes`, which is NULL if an
+   address doesn't fit into a table; or DWCHECK_NO_MEMORY. */
+__attribute__((visibility("hidden")))
+uint32_t dwcheck_dl_table(const dwcheck_module *module, uint8_t **bytes, size_t *length);
+
 #endif

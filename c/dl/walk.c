@@ -1,265 +1,139 @@
-/* Walks the calling thread's stack. */
+/* Walks with kept rows, which are filled in where they are missing. */
 #define _GNU_SOURCE
-#include "dwcheck-dl.h"
+#include "walk.h"
+#include "memory.h"
 
-#include <errno.h>
-#include <signal.h>
 #include <string.h>
-#include <sys/syscall.h>
-#include <sys/uio.h>
-#include <ucontext.h>
-#include <unistd.h>
 
-#if !defined(__x86_64__)
-#error "dwcheck-dl is for x86-64"
-#endif
-
-/* DWARF's numbers on x86-64: 0 to 15 for the general-purpose registers, 16 for the return address. */
-enum { RBX = 3, RBP = 6, RSP = 7, R12 = 12, R13 = 13, R14 = 14, R15 = 15, RIP = 16, REGISTERS = 17 };
-
-/* ---- which memory can be read. Nothing of it is remembered from one walk to the next, since a program may
-   unmap what was a stack. */
-
-enum { PAGE = 4096, RED_ZONE = 128, SAVED = 256, FIRST_PAGES = 2, MORE_PAGES = 16, MOST_PAGES = 2048 };
-
-/* Whether valgrind runs the program: then this code is a question to it, and otherwise it does nothing. */
-static int is_in_valgrind(void) {
-    volatile uint64_t question[6] = {0x1001};
-    uint64_t answer = 0;
-    __asm__ volatile("rolq $3, %%rdi\n\trolq $13, %%rdi\n\trolq $61, %%rdi\n\trolq $51, %%rdi\n\txchgq %%rbx, %%rbx"
-                     : "+d"(answer)
-                     : "a"(question)
-                     : "cc", "memory");
-    return answer != 0;
+static void begin(struct dwcheck_dl_walk *walk, uint32_t options) {
+    walk->cache = dwcheck_dl_claim();
+    if (walk->cache == NULL) dwcheck_dl_begin_reading();
+    walk->confirmed = walk->filled = 0;
+    walk->has_room = false;
+    walk->options = options;
+    walk->stop = DWCHECK_STOP_LIMIT;
+    walk->mark = DWCHECK_DL_BY_ROW;
+    walk->interrupted = NULL;
+    walk->is_over = false;
 }
 
-/* Whether the first byte of a page can be read, asked so that valgrind doesn't complain: it takes what the probe below
-   reads for a mask, which must be initialized. A sandbox may refuse the call, so there its answer isn't DONE. */
-static uint32_t reads_first_byte(uint64_t page, int *is_readable) {
-    char byte;
-    struct iovec here = {&byte, 1}, there = {(void *)(uintptr_t)(page * PAGE), 1};
-    ssize_t result = process_vm_readv(getpid(), &here, 1, &there, 1, 0);
-    *is_readable = result == 1;
-    return result == 1 || errno == EFAULT ? DWCHECK_DONE : DWCHECK_NONE;
+void dwcheck_dl_start(struct dwcheck_dl_walk *walk, const dwcheck_register_place *place, uint32_t options) {
+    begin(walk, options);
+    walk->place = *place;
+    walk->stack = dwcheck_dl_own_stack(place->stack_pointer);
 }
 
-/* Whether the page with this number can be read. The kernel reads the new mask before it finds that the
-   first argument is none that it knows. So nothing changes, and the error says whether it could read. */
-static int is_readable(uint64_t page) {
-    if (page == 0) return 0; /* the address 0 would mean that no mask is given */
-    int before = errno, is_read;
-    if (is_in_valgrind() && reads_first_byte(page, &is_read) == DWCHECK_DONE) {
-        errno = before;
-        return is_read;
+void dwcheck_dl_start_from(struct dwcheck_dl_walk *walk, const ucontext_t *context, uint32_t options) {
+    begin(walk, options);
+    dwcheck_dl_go_to(walk, context);
+}
+
+void dwcheck_dl_finish(struct dwcheck_dl_walk *walk) {
+    if (walk->cache == NULL) dwcheck_dl_end_reading();
+    else dwcheck_dl_release(walk->cache);
+}
+
+struct dwcheck_dl_room dwcheck_dl_room_of(struct dwcheck_dl_walk *walk) {
+    if (!walk->has_room) walk->room = dwcheck_dl_room();
+    walk->has_room = true;
+    return walk->room;
+}
+
+/* Gives the cache what is missing for a frame: first its module is confirmed, and if the row is still missing then, it
+   is looked up. Returns DWCHECK_DONE, and then it isn't missing any more; DWCHECK_NO_PLACE at the frame of a signal,
+   whose row needs no look-up; DWCHECK_NONE if no row covers the frame; or why the row can't be read, which is
+   DWCHECK_NO_MEMORY if the stack is too small for that. */
+static uint32_t supply(struct dwcheck_dl_walk *walk, uint64_t address, uint64_t key) {
+    if (key == 0) return DWCHECK_NONE;
+    const int slot = dwcheck_dl_slot_of(walk->cache, walk->confirmed, key - 1);
+    if (slot < 0)
+        return dwcheck_dl_confirm(walk->cache, &walk->confirmed, key - 1) < 0 ? DWCHECK_NONE : DWCHECK_DONE;
+    if (key == walk->filled) return DWCHECK_NONE;
+    if (key == address && dwcheck_dl_is_return_of_signal(address)) return DWCHECK_NO_PLACE;
+    walk->filled = key;
+    return dwcheck_dl_fill(walk->cache, slot, key - 1, dwcheck_dl_room_of(walk));
+}
+
+static void end(struct dwcheck_dl_walk *walk, uint32_t stop) {
+    walk->stop = stop;
+    walk->is_over = true;
+}
+
+/* Does what is needed after kept rows have led to `count` frames. Returns how many frames there are now. */
+static size_t go_on(struct dwcheck_dl_walk *walk, dwcheck_register_frame *frames, size_t count, uint32_t stop) {
+    uint32_t status;
+    switch (stop) {
+    case DWCHECK_STOP_LIMIT:
+        return count;
+    case DWCHECK_STOP_MISSING:
+        if (walk->place.key == 0) break; /* a return address of 0 leads to no caller */
+        status = supply(walk, walk->place.address, walk->place.key);
+        if (status == DWCHECK_DONE) return count;
+        if (status == DWCHECK_NO_PLACE) dwcheck_dl_step(walk, &frames[count]);
+        else dwcheck_dl_step_without_row(walk, &frames[count], status);
+        return count + 1;
+    case DWCHECK_STOP_OTHER:
+        dwcheck_dl_step(walk, &frames[count]);
+        return count + 1;
+    case DWCHECK_STOP_RETURN_UNREADABLE: /* the memory may go on after the block */
+        if (!dwcheck_dl_extend(&walk->stack, frames[count - 1].cfa)) break;
+        walk->place = frames[count - 1].place;
+        return count - 1;
     }
-    long result = syscall(SYS_rt_sigprocmask, ~0, page * PAGE, NULL, 8);
-    int is_fault = result != -1 || errno != EINVAL; /* a sandbox may refuse the call: then nothing is read */
-    errno = before;
-    return !is_fault;
-}
-
-/* How many pages from `page` on can be read, at most `most`. */
-static uint64_t count_readable(uint64_t page, uint64_t most) {
-    uint64_t count = 0;
-    while (count < most && is_readable(page + count)) count++;
+    end(walk, stop == DWCHECK_STOP_MISSING ? DWCHECK_STOP_NOT_COVERED : stop);
     return count;
 }
 
-/* The memory from an address on, of at most `most` pages. */
-static dwcheck_block block_at(uint64_t address, uint64_t most) {
-    static const uint8_t nothing;
-    uint64_t count = count_readable(address / PAGE, most);
-    if (count == 0) return (dwcheck_block){address, &nothing, 0};
-    return (dwcheck_block){address, (const uint8_t *)(uintptr_t)address, (address / PAGE + count) * PAGE - address};
-}
-
-dwcheck_block dwcheck_dl_stack(uint64_t address) { return block_at(address, MOST_PAGES); }
-
-static uint64_t end_of(const dwcheck_block *block) { return block->base + block->length; }
-
-/* The memory of a frame with this stack pointer, with the red zone if it may have one. After an overflow
-   the stack pointer is in pages that can't be read, and the frame's caller is above them. */
-static dwcheck_block stack_from(uint64_t pointer, uint64_t red_zone) {
-    enum { OVERFLOW_PAGES = 256 };
-    dwcheck_block block = block_at(pointer - red_zone, FIRST_PAGES);
-    if (end_of(&block) <= pointer) block = block_at(pointer, FIRST_PAGES);
-    for (uint64_t page = pointer / PAGE + 1, i = 0; block.length == 0 && i < OVERFLOW_PAGES; i++)
-        block = block_at((page + i) * PAGE, FIRST_PAGES);
-    return block;
-}
-
-/* Makes a block longer, so that it has what lies below this canonical frame address, or if that isn't known,
-   by some pages. If that address is far away or on another stack, the block becomes one with what lies just
-   below it. Returns whether there is more memory now. */
-static int extend(dwcheck_block *block, const dwcheck_answer *cfa) {
-    uint64_t end = end_of(block), pages = MORE_PAGES, count = 0;
-    int is_known = cfa->kind == DWCHECK_ANSWER_VALUE;
-    if (is_known) pages = cfa->value > end ? (cfa->value - end) / PAGE + FIRST_PAGES : 0;
-    else if (block->length / PAGE >= MOST_PAGES) return 0;
-    if (end % PAGE == 0 && pages <= MOST_PAGES) count = count_readable(end / PAGE, pages);
-    block->length += count * PAGE;
-    if (!is_known || (count != 0 && cfa->value <= end_of(block))) return count != 0;
-    uint64_t last = cfa->value - sizeof(uint64_t); /* where the return address usually is */
-    if (last - block->base < block->length) return 0;
-    dwcheck_block other = stack_from(last, SAVED);
-    if (last - other.base >= other.length) return count != 0;
-    *block = other;
-    return 1;
-}
-
-/* ---- walks */
-
-/* A walk: where it is, and the memory that it may read. */
-struct walk {
-    dwcheck_cursor cursor;
-    dwcheck_state state;
-    dwcheck_block stack;
-};
-
-/* Takes a step. If the return address can't be read, which may be because the memory goes on after the
-   block, tries again with more memory: then the cursor has stayed where it was. */
-static uint32_t step(struct walk *walk, const dwcheck_process *process, dwcheck_frame *frame) {
-    for (;;) {
-        uint32_t stage = walk->cursor.stage, status = dwcheck_cursor_step(process, &walk->cursor, &walk->state, frame);
-        if (status != DWCHECK_DONE || walk->cursor.stage != DWCHECK_STOP_RETURN_UNREADABLE + 1 || !extend(&walk->stack, &frame->cfa))
-            return status;
-        walk->cursor.stage = stage;
+size_t dwcheck_dl_next(struct dwcheck_dl_walk *walk, dwcheck_register_frame *frames, size_t room) {
+    size_t count = 0;
+    walk->mark = DWCHECK_DL_BY_ROW;
+    while (count < room && !walk->is_over && walk->mark == DWCHECK_DL_BY_ROW) {
+        size_t more = 0;
+        uint32_t stop = DWCHECK_STOP_OTHER;
+        if (walk->cache != NULL)
+            dwcheck_walk_frames(&walk->cache->rows, walk->confirmed, &walk->place, &walk->stack, 1, frames + count,
+                                room - count, &more, &stop);
+        count = go_on(walk, frames, count + more, stop);
     }
-}
-
-/* Prepares for the frame after this one, whose stack pointer may be on another stack: a signal handler may
-   run on a stack of its own, and what it interrupted may have a red zone. */
-static void prepare(struct walk *walk) {
-    int is_signal = walk->cursor.stage == DWCHECK_CURSOR_EXACT;
-    uint64_t pointer = walk->cursor.contents[RSP];
-    if (is_signal || pointer < walk->stack.base || pointer > end_of(&walk->stack))
-        walk->stack = stack_from(pointer, is_signal ? RED_ZONE : 0);
-}
-
-/* The frame that a walk begins with: its registers, of which those are known that have a bit in `known`;
-   whether its address is the interrupted one or, if not, a return address; the size of its red zone; and how
-   many frames are left out. */
-struct start {
-    uint64_t registers[REGISTERS];
-    uint8_t known[3];
-    int is_exact, red_zone, skipped;
-};
-
-/* Walks from a frame, and writes the addresses of the frames. It isn't inlined: so what it writes is below
-   the stack that dwcheck_dl_backtrace lets it read. */
-__attribute__((noinline)) static int walk_from(const struct start *start, void **addresses, int size) {
-    static const uint16_t kept[] = {RBX, RBP, R12, R13, R14, R15};
-    struct walk walk;
-    walk.stack = stack_from(start->registers[RSP], (uint64_t)start->red_zone);
-    walk.state = (dwcheck_state){.contents = start->registers, .contents_length = REGISTERS, .known = start->known,
-                                 .known_length = sizeof start->known, .blocks = &walk.stack, .blocks_length = 1, .kept = kept,
-                                 .kept_length = sizeof kept / sizeof *kept, .stack_pointer = RSP, .has_stack_pointer = 1};
-    dwcheck_frame frame;
-    dwcheck_fault fault;
-    int count = 0, skipped = start->skipped;
-    const dwcheck_process *process = dwcheck_dl_begin();
-    if (dwcheck_cursor_init(&walk.cursor, start->registers[RIP], &walk.state, (uint32_t)start->is_exact, &fault) == DWCHECK_DONE)
-        while (count < size && step(&walk, process, &frame) == DWCHECK_DONE) {
-            if (walk.cursor.stage <= DWCHECK_CURSOR_CALLER) prepare(&walk);
-            if (skipped > 0) skipped--;
-            else addresses[count++] = (void *)(uintptr_t)frame.address;
-        }
-    dwcheck_dl_end();
     return count;
 }
 
-/* Whether a row of a table is for this address, which is exact or a return address. */
-static int has_row(uint64_t address, int is_exact) {
-    dwcheck_row row;
-    const dwcheck_process *process = dwcheck_dl_begin();
-    uint32_t status = dwcheck_row_at(process, is_exact ? address : address - 1, &row, NULL, 0);
-    dwcheck_dl_end();
-    return status == DWCHECK_DONE;
+/* Goes on to the frame that comes after `count` others, whose addresses are known already, to have its registers. */
+static void catch_up(struct dwcheck_dl_walk *walk, size_t count) {
+    dwcheck_register_frame *frames = walk->cache->found.frames;
+    while (count > 0 && !walk->is_over) {
+        const size_t wanted = count < DWCHECK_DL_FRAMES ? count : DWCHECK_DL_FRAMES;
+        count -= dwcheck_dl_next(walk, frames, wanted);
+    }
 }
 
-/* Whether a thread was interrupted because nothing can be executed where it is: the processor says that it was to fetch
-   the instruction there, from memory that isn't mapped or mustn't be executed. What it said of an earlier interruption
-   stays in the context of later ones, so it must have been at the same address. A page of code that has been taken away
-   has rows still. */
-static int is_nowhere(const ucontext_t *interrupted) {
-    enum { PAGE_FAULT = 14, OF_FETCH = 1 << 4 };
-    const greg_t *registers = interrupted->uc_mcontext.gregs;
-    return registers[REG_TRAPNO] == PAGE_FAULT && registers[REG_ERR] & OF_FETCH && registers[REG_CR2] == registers[REG_RIP]
-           && !has_row((uint64_t)registers[REG_RIP], 1);
+/* Walks by kept rows as far as they lead, from `place`. Writes the addresses, and why there are no more. */
+static size_t addresses_from(struct dwcheck_dl_walk *walk, dwcheck_place *place, void **addresses, size_t room,
+                             uint32_t *stop) {
+    uint64_t *found = walk->cache->found.addresses;
+    size_t count = 0, more;
+    do {
+        const size_t wanted = room - count < DWCHECK_DL_CHUNK ? room - count : DWCHECK_DL_CHUNK;
+        dwcheck_walk(&walk->cache->rows, walk->confirmed, place, &walk->stack, 1, found, wanted, &more, stop);
+        memcpy(addresses + count, found, more * sizeof *found);
+        count += more;
+    } while ((*stop == DWCHECK_STOP_LIMIT && count < room)
+             || (*stop == DWCHECK_STOP_MISSING && supply(walk, place->address, place->key) == DWCHECK_DONE));
+    return count;
 }
 
-/* The length of an instruction ff whose operand byte is this one. */
-static int length_of(uint8_t operand) {
-    int kind = operand >> 6, has_index = (operand & 7) == 4 && kind != 3;
-    int displacement = kind == 2 || (kind == 0 && (operand & 7) == 5) ? 4 : kind == 1;
-    return 2 + has_index + displacement;
-}
-
-/* Whether a near call ends at an address: e8 and four bytes; or ff, a byte whose middle bits are 2, and what this byte
-   says that follows. */
-static int follows_call(uint64_t address) {
-    enum { LONGEST = 7, DIRECT = 5 };
-    dwcheck_block block = block_at(address - LONGEST, FIRST_PAGES);
-    if (address < LONGEST || block.length < LONGEST) return 0;
-    const uint8_t *end = block.bytes + LONGEST;
-    if (end[-DIRECT] == 0xe8) return 1;
-    for (int length = 2; length <= LONGEST; length++)
-        if (end[-length] == 0xff && (end[1 - length] >> 3 & 7) == 2 && length_of(end[1 - length]) == length) return 1;
-    return 0;
-}
-
-/* Where no row says who the caller is, this library has a policy of its own: it guesses only after a wild call. The tools
-   in Rust (rust/dwcheck-elf/src/process/without_row.rs) also guess by frame pointers, by return addresses of code without
-   rows and by the code to which signal handlers return, and mark each such frame. Addresses that this library writes can
-   have no mark, so its users would take a guess for a frame. It also runs in signal handlers, where it can neither list
-   which memory is code nor read files. */
-
-/* Whether a thread was interrupted where it has called what is no function: a null pointer, or any other address where
-   nothing can be executed. The call has pushed its return address, and done nothing else. Then goes back to the frame
-   that made the call. In place of a call there may have been a return to a wrong address: so the address must follow a
-   call, and be one of code with rows, unless it was a null pointer. */
-static int leave_wild_call(struct start *start, const ucontext_t *interrupted) {
-    dwcheck_block stack = block_at(start->registers[RSP], FIRST_PAGES);
-    int is_null = start->registers[RIP] < PAGE;
-    uint64_t address;
-    if (stack.length < sizeof address || (!is_null && !is_nowhere(interrupted))) return 0;
-    memcpy(&address, stack.bytes, sizeof address);
-    if (!follows_call(address) || (!is_null && !has_row(address, 0))) return 0;
-    start->registers[RIP] = address;
-    start->registers[RSP] += sizeof address;
-    start->is_exact = 0;
-    return 1;
-}
-
-int dwcheck_dl_backtrace_from(const void *context, void **addresses, int size) {
-    static const int places[REGISTERS] = {REG_RAX, REG_RDX, REG_RCX, REG_RBX, REG_RSI, REG_RDI, REG_RBP, REG_RSP, REG_R8,
-                                          REG_R9,  REG_R10, REG_R11, REG_R12, REG_R13, REG_R14, REG_R15, REG_RIP};
-    const ucontext_t *interrupted = context;
-    struct start start = {.known = {0xff, 0xff, 1}, .is_exact = 1, .red_zone = RED_ZONE};
-    for (int i = 0; i < REGISTERS; i++) start.registers[i] = (uint64_t)interrupted->uc_mcontext.gregs[places[i]];
-    void *first = (void *)(uintptr_t)start.registers[RIP];
-    if (size <= 0 || !leave_wild_call(&start, interrupted)) return walk_from(&start, addresses, size);
-    addresses[0] = first;
-    return 1 + walk_from(&start, addresses + 1, size - 1);
-}
-
-/* It isn't inlined, so that its own frame is the one that is left out. */
-__attribute__((noinline)) int dwcheck_dl_backtrace(void **addresses, int size) {
-    struct start start = {.known = {1 << RBX | 1 << RBP | 1 << RSP, 0xf0, 1}, .is_exact = 1, .skipped = 1};
-    __asm__ volatile("movq %%rbx, 24(%0)\n\t"
-                     "movq %%rbp, 48(%0)\n\t"
-                     "movq %%rsp, 56(%0)\n\t"
-                     "movq %%r12, 96(%0)\n\t"
-                     "movq %%r13, 104(%0)\n\t"
-                     "movq %%r14, 112(%0)\n\t"
-                     "movq %%r15, 120(%0)\n\t"
-                     "leaq 1f(%%rip), %%rax\n"
-                     "1:\n\t"
-                     "movq %%rax, 128(%0)"
-                     :
-                     : "r"(start.registers)
-                     : "rax", "memory");
-    int count = walk_from(&start, addresses, size);
-    __asm__ volatile("" ::: "memory"); /* so that the call above isn't a jump */
+size_t dwcheck_dl_pass(struct dwcheck_dl_walk *walk, void **addresses, size_t room) {
+    if (walk->cache == NULL || walk->mark != DWCHECK_DL_BY_ROW || !dwcheck_dl_is_own(&walk->stack)) return 0;
+    dwcheck_place place = {.address = walk->place.address, .key = walk->place.key, .stack_pointer = walk->place.stack_pointer,
+                           .frame_pointer = walk->place.rbp};
+    uint32_t stop;
+    size_t count = addresses_from(walk, &place, addresses, room, &stop);
+    if (stop == DWCHECK_STOP_LIMIT || stop == DWCHECK_STOP_RETURN_UNDEFINED) {
+        end(walk, stop);
+    } else {
+        if (stop == DWCHECK_STOP_RETURN_UNREADABLE) count--; /* to see why */
+        walk->filled = 0;
+        catch_up(walk, count);
+    }
     return count;
 }

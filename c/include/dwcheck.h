@@ -17,7 +17,7 @@
      synchronize for that: by a lock, by an atomic of memory_order_seq_cst, or by a thread's start or join.
    - To add or remove modules while others read: (1) make another process by dwcheck_process_share, which copies no
      table; (2) change that one; (3) publish a pointer to it by an atomic, from which each reader takes the process
-     that it reads next; (4) close the old process once all calls that read it have returned. c/dl/update.c does so.
+     that it reads next; (4) close the old process once all calls that read it have returned. c/tests/readers.c does so.
    - To move a process, copy the structure and set the old one to DWCHECK_CLOSED; a move is a change. A process has to
      be closed if a module was added to it, or if dwcheck_process_share made it from an open process, even if its
      modules have been removed.

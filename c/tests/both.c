@@ -16,7 +16,6 @@ __attribute__((noinline)) static int counts(void) {
 __attribute__((noinline)) static int deep(int depth) { return (depth == 0 ? counts() : deep(depth - 1)) + 1; }
 
 int main(void) {
-    dwcheck_dl_counts found;
-    if (dwcheck_dl_update(&found) != DWCHECK_DONE || found.left_out != 0) return 1;
+    if (dwcheck_dl_prepare() != DWCHECK_DONE) return 1;
     return deep(5) + through(counts) < 0;
 }

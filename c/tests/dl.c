@@ -1,62 +1,32 @@
-/* Tests of dwcheck-dl: its stacks are those of glibc's backtrace. The argument is a library with a
-   function `call_back`, which calls the function that it gets. Prints a line for each failure, and at
-   the end a line with counts. */
+/* Tests of dwcheck-dl: its stacks are those of glibc's backtrace, with nothing called before. Prints a line for each
+   failure, and at the end a line with counts. */
 #define _GNU_SOURCE
-#include "dwcheck-dl.h"
+#include "dl.h"
 
 #include <alloca.h>
-#include <dlfcn.h>
-#include <execinfo.h>
 #include <limits.h>
 #include <pthread.h>
 #include <setjmp.h>
 #include <signal.h>
-#include <stdatomic.h>
-#include <stdio.h>
-#include <stdlib.h>
-#include <string.h>
 #include <sys/mman.h>
 #include <ucontext.h>
-
-enum { FRAMES = 100, DEPTH = 30, THREADS = 4, ROUNDS = 200 };
-
-static atomic_int wrong, walks;
-#define IS(what, want)                                                                               \
-    do {                                                                                             \
-        long long is_ = (long long)(what), want_ = (long long)(want);                                \
-        if (is_ != want_) {                                                                          \
-            wrong++;                                                                                 \
-            printf("%d: %s is %lld, not %lld\n", __LINE__, #what, is_, want_);                       \
-        }                                                                                            \
-    } while (0)
-
-/* Compares the two stacks of this function, of which the first addresses differ. */
-__attribute__((noinline)) static void compare(void) {
-    void *ours[FRAMES], *theirs[FRAMES];
-    int our_count = dwcheck_dl_backtrace(ours, FRAMES), their_count = backtrace(theirs, FRAMES);
-    walks++;
-    IS(our_count, their_count);
-    if (our_count == their_count) IS(memcmp(ours + 1, theirs + 1, (size_t)(our_count - 1) * sizeof *ours), 0);
-}
-
-__attribute__((noinline)) static int deep(int depth, void (*last)(void)) {
-    if (depth == 0) last();
-    else deep(depth - 1, last);
-    return depth + atomic_load(&walks);
-}
 
 static int compare_in_libc(const void *a, const void *b) {
     compare();
     return *(const int *)a - *(const int *)b;
 }
 
+/* Before and after the thread's stack is known. */
 static void *in_a_thread(void *unused) {
-    (void)unused;
     deep(DEPTH, compare);
-    return NULL;
+    IS(dwcheck_dl_thread(), DWCHECK_DONE);
+    deep(DEPTH, compare);
+    return unused;
 }
 
 /* ---- signals */
+
+enum { ALTERNATE = 1 << 17 };
 
 /* From the interrupted instruction on, the stack is what glibc has after the frame of the signal. */
 static void on_signal(int signal, siginfo_t *info, void *context) {
@@ -97,13 +67,37 @@ static void test_signals(void) {
     sigaction(SIGILL, &trap, NULL);
     deep(DEPTH, raise_signal);
     deep(DEPTH, traps);
-    stack_t alternate = {.ss_sp = malloc(1 << 16), .ss_size = 1 << 16}, before;
+    stack_t alternate = {.ss_sp = malloc(ALTERNATE), .ss_size = ALTERNATE}, before;
     sigaltstack(&alternate, &before);
     deep(DEPTH, raise_signal);
     deep(DEPTH, pops);
     sigaltstack(&before, NULL);
     free(alternate.ss_sp);
     compare();
+}
+
+/* An alternate stack that is too small to look up rows suffices, since that is done on a stack of the library. */
+static volatile int stop_on_small, count_on_small;
+static void on_small_stack(int signal, siginfo_t *info, void *context) {
+    (void)signal, (void)info;
+    static void *addresses[FRAMES];
+    dwcheck_dl_request request = {.context = context};
+    count_on_small = dwcheck_dl_walk(&request, addresses, FRAMES);
+    stop_on_small = (int)request.stop;
+}
+
+static void test_small_stack(void) {
+    enum { SMALL = 12 << 10 };
+    struct sigaction action = {.sa_sigaction = on_small_stack, .sa_flags = SA_SIGINFO | SA_ONSTACK}, was;
+    stack_t alternate = {.ss_sp = malloc(SMALL), .ss_size = SMALL}, before;
+    sigaltstack(&alternate, &before);
+    sigaction(SIGUSR2, &action, &was);
+    raise(SIGUSR2);
+    sigaction(SIGUSR2, &was, NULL);
+    sigaltstack(&before, NULL);
+    free(alternate.ss_sp);
+    IS(count_on_small > 5, 1);
+    IS(stop_on_small, DWCHECK_STOP_RETURN_UNDEFINED);
 }
 
 /* ---- a stack that overflows */
@@ -121,21 +115,24 @@ __attribute__((noinline)) static int without_end(int depth) {
     return depth == atomic_load(&walks) + INT_MAX / 2 ? 0 : without_end(depth + 1) + bytes[0];
 }
 
-static void *overflow(void *unused) {
-    stack_t alternate = {.ss_sp = malloc(1 << 16), .ss_size = 1 << 16}, before;
+static void *overflow(void *is_known) {
+    stack_t alternate = {.ss_sp = malloc(ALTERNATE), .ss_size = ALTERNATE}, before;
     sigaltstack(&alternate, &before);
+    if (is_known != NULL) IS(dwcheck_dl_thread(), DWCHECK_DONE);
     if (sigsetjmp(after_overflow, 1) == 0) without_end(0);
     sigaltstack(&before, NULL);
     free(alternate.ss_sp);
-    return unused;
+    return NULL;
 }
 
 static void test_overflow(void) {
     struct sigaction action = {.sa_sigaction = on_overflow, .sa_flags = SA_SIGINFO | SA_ONSTACK}, before;
     pthread_t thread;
     sigaction(SIGSEGV, &action, &before);
-    pthread_create(&thread, NULL, overflow, NULL);
-    pthread_join(thread, NULL);
+    for (int i = 0; i < 2; i++) { /* the second one knows where its stack is */
+        pthread_create(&thread, NULL, overflow, i == 0 ? NULL : &thread);
+        pthread_join(thread, NULL);
+    }
     sigaction(SIGSEGV, &before, NULL);
 }
 
@@ -159,7 +156,7 @@ static void compare_above_a_big_frame(void) {
 }
 
 static void test_other_stacks(void) {
-    enum { SIZE = 1 << 16 };
+    enum { SIZE = 1 << 17 };
     char *bytes = mmap(NULL, 2 * BIG, PROT_READ | PROT_WRITE, MAP_PRIVATE | MAP_ANONYMOUS, -1, 0), *heap = malloc(SIZE);
     on_stack(compare_deep, bytes + SIZE);
     on_stack(compare_deep, (void *)((uintptr_t)(heap + SIZE) & ~(uintptr_t)15));
@@ -233,65 +230,6 @@ static void test_wild_calls(void) {
     munmap(data, PAGE);
 }
 
-/* ---- libraries that come and go */
-
-static const char *library_name;
-
-/* Loads the library, walks through it, and unloads it again. */
-static void come_and_go(void) {
-    dwcheck_dl_counts counts;
-    void *library = dlopen(library_name, RTLD_NOW);
-    void (*call_back)(void (*)(void)) = NULL;
-    if (library) *(void **)&call_back = dlsym(library, "call_back");
-    IS(call_back != NULL, 1);
-    if (!call_back) return;
-    IS(dwcheck_dl_update(&counts), DWCHECK_DONE);
-    IS(counts.added, 1);
-    call_back(compare);
-    ucontext_t inside;
-    void *addresses[FRAMES];
-    getcontext(&inside);
-    inside.uc_mcontext.gregs[REG_RIP] = (long long)(uintptr_t)call_back;
-    dlclose(library);
-    IS(dwcheck_dl_backtrace_from(&inside, addresses, FRAMES) > 0, 1); /* its code isn't mapped any more */
-    IS(dwcheck_dl_update(&counts), DWCHECK_DONE);
-    IS(counts.removed, 1);
-    IS(counts.left_out, 0);
-}
-
-/* A thread that is to be cancelled makes an update, which would otherwise end where it opens a file. */
-static void *update_and_end(void *unused) {
-    pthread_cancel(pthread_self());
-    dwcheck_dl_update(NULL);
-    pthread_testcancel();
-    return unused;
-}
-
-static void test_cancelled_update(void) {
-    void *library = dlopen(library_name, RTLD_NOW), *result = NULL;
-    pthread_t thread;
-    pthread_create(&thread, NULL, update_and_end, NULL);
-    pthread_join(thread, &result);
-    IS(result == PTHREAD_CANCELED, 1);
-    dlclose(library);
-    IS(dwcheck_dl_update(NULL), DWCHECK_DONE);
-}
-
-static atomic_int is_done;
-
-static void *walk_all_the_time(void *unused) {
-    while (!atomic_load(&is_done)) in_a_thread(unused);
-    return NULL;
-}
-
-static void test_threads(void) {
-    pthread_t threads[THREADS];
-    for (int i = 0; i < THREADS; i++) pthread_create(&threads[i], NULL, walk_all_the_time, NULL);
-    for (int i = 0; i < ROUNDS; i++) come_and_go();
-    atomic_store(&is_done, 1);
-    for (int i = 0; i < THREADS; i++) pthread_join(threads[i], NULL);
-}
-
 /* ---- the stack */
 
 static void test_stack(void) {
@@ -314,18 +252,35 @@ static void test_stack(void) {
     compare();
 }
 
-int main(int count, char **arguments) {
-    void *one;
-    dwcheck_dl_counts counts;
-    (void)count;
-    library_name = arguments[1];
-    IS(dwcheck_dl_backtrace(&one, 1), 0); /* there is no table yet, and so no caller of the call's own frame */
-    backtrace(&one, 1);                  /* loads the library that it needs */
+/* ---- why a walk stops, and how a frame was found */
+
+static void test_reasons(void) {
+    void *addresses[FRAMES];
+    uint8_t marks[FRAMES];
+    dwcheck_dl_request request = {.marks = marks};
+    int count = dwcheck_dl_walk(&request, addresses, FRAMES), guessed = 0;
+    for (int i = 0; i < count; i++) guessed += marks[i] != DWCHECK_DL_BY_ROW;
+    IS(count > 2, 1);
+    IS(guessed, 0);
+    IS(request.stop, DWCHECK_STOP_RETURN_UNDEFINED);
+    IS(dwcheck_dl_walk(&request, addresses, 2), 2);
+    IS(request.stop, DWCHECK_STOP_LIMIT);
+    IS(dwcheck_dl_backtrace(addresses, 0), 0);
+    IS(dwcheck_dl_backtrace(addresses, -1), 0);
+    dwcheck_dl_counts counts = {1, 1, 1, 1};
     IS(dwcheck_dl_update(&counts), DWCHECK_DONE);
-    IS(counts.added == counts.modules && counts.added >= 3, 1);
-    IS(counts.left_out, 0);
-    IS(dwcheck_dl_update(&counts), DWCHECK_DONE);
-    IS(counts.added, 0);
+    IS(counts.modules | counts.added | counts.removed | counts.left_out, 0);
+}
+
+/* The first walk of the process is made before main. */
+static int before_main;
+__attribute__((constructor)) static void walk_before_main(void) {
+    void *addresses[FRAMES];
+    before_main = dwcheck_dl_backtrace(addresses, FRAMES);
+    IS(before_main, backtrace(addresses, FRAMES));
+}
+
+static void test_all(void) {
     deep(DEPTH, compare);
     int numbers[] = {3, 1, 2};
     qsort(numbers, 3, sizeof *numbers, compare_in_libc);
@@ -337,10 +292,14 @@ int main(int count, char **arguments) {
     test_wild_calls();
     test_other_stacks();
     test_stack();
-    come_and_go();
-    test_cancelled_update();
-    test_threads();
-    IS(dwcheck_dl_backtrace(&one, 0), 0);
-    printf("%d walks, %d wrong\n", atomic_load(&walks), atomic_load(&wrong));
-    return atomic_load(&wrong) != 0;
+    test_reasons();
+}
+
+int main(void) {
+    IS(before_main > 2, 1);
+    test_small_stack();
+    test_all();
+    IS(dwcheck_dl_thread(), DWCHECK_DONE);
+    test_all();
+    return report();
 }

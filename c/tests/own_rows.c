@@ -81,7 +81,6 @@ __attribute__((noinline)) static int deep(int depth, const char *name, unsigned 
 int main(void) {
     struct sigaction step = {.sa_sigaction = on_step, .sa_flags = SA_SIGINFO}, begin = {.sa_sigaction = on_begin, .sa_flags = SA_SIGINFO};
     backtrace(callers, 1); /* loads the library that it needs */
-    if (dwcheck_dl_update(NULL) != DWCHECK_DONE) return 1;
     sigaction(SIGTRAP, &step, NULL);
     sigaction(SIGUSR1, &begin, NULL);
     deep(DEPTH, "a walk", 1, a_walk);

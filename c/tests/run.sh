@@ -1,6 +1,6 @@
 #!/bin/bash
 # Builds the tests with the static library build/libdwcheck.a, or the one that LIBRARY names, and runs
-# them: those of readers.c, frozen.c, cursor.c, cache.c, dl.c, own_rows.c, both.c and changed.c; those of
+# them: those of readers.c, frozen.c, cursor.c, cache.c, dl.c, dl_modules.c, dl_left.c, own_rows.c, both.c and changed.c; those of
 # in_place.c, kept_rows.c and kept_rows_of_stacks.c, plainly, with sanitizers and under valgrind; those of
 # wrapper.cc, as C++17, as C++20 and over the module; and those of cases.c while allocations fail in turn,
 # with sanitizers, and under valgrind. Before that, the headers are compiled as C11, C17 and C++17; passing
@@ -125,19 +125,78 @@ build_called() { # a library whose only function calls back
         cc -O2 -fPIC -shared -x c - -o "$out/called.so"
 }
 
-dl() { # builds the tests of dwcheck-dl, and runs them with a library that comes and goes
-    build_called &&
-        cc -std=gnu11 $strict -O2 -g -fno-optimize-sibling-calls -fno-omit-frame-pointer "$top/c/tests/dl.c" "$dl_library" "$library" -o "$out/dl" \
-            -pthread -ldl && "$out/dl" "$out/called.so"
+build_dl() { # PROGRAM FLAG..: builds tests of dwcheck-dl
+    local program=$1
+    shift
+    cc -std=gnu11 $strict -O2 -g -fno-optimize-sibling-calls -fno-omit-frame-pointer "$@" "$top/c/tests/$program.c" "$dl_library" "$library" \
+        -o "$out/$program" -pthread -ldl
+}
+
+dl() { # PROGRAM FLAG..: builds such tests, and runs them
+    build_dl "$@" && "$out/$1"
+}
+
+calls_back() { # LIBRARY BYTES FLAG..: a library whose function calls back, and takes so much stack
+    local library=$1 bytes=$2
+    shift 2
+    printf 'void call_back(void (*f)(void));\nvoid call_back(void (*f)(void)) { volatile char bytes[%s]; bytes[0] = 1; f(); bytes[1] = 2; }\n' "$bytes" |
+        cc -O2 -fPIC -shared "$@" -x c - -o "$out/$library"
+}
+
+run_dl_modules() { # FLAG..: runs the tests of libraries that come and go, with libraries that are compiled so
+    build_called && calls_back small.so 1000 "$@" && calls_back large.so 4000 "$@" &&
+        for i in $(seq 70); do cp "$out/called.so" "$out/copy$i.so"; done &&
+        "$out/dl_modules" "$out/called.so" "$out/small.so" "$out/large.so" "$out"/copy*.so
+}
+
+dl_modules() { # FLAG..: builds these tests, and runs them with libraries that are compiled so
+    build_dl dl_modules && run_dl_modules "$@"
 }
 
 linked() { # FLAG..: builds a program that prints how many frames its stack has, with many other functions
     {
-        printf '#include "dwcheck-dl.h"\n#include <stdio.h>\nint main(void) {\n    void *frames[9];\n    dwcheck_dl_update(NULL);\n'
+        printf '#include "dwcheck-dl.h"\n#include <stdio.h>\nint main(void) {\n    void *frames[9];\n    dwcheck_dl_prepare();\n'
         printf '    return printf("%%d frames\\n", dwcheck_dl_backtrace(frames, 9)) < 0;\n}\n'
         seq 900 | sed 's/.*/int f&(int x); int f&(int x) { return x + &; }/'
     } | cc -std=gnu11 $strict -O2 "$@" -x c - -x none "$dl_library" "$library" -o "$out/linked" -pthread -ldl &&
         [ "$("$out/linked")" = "4 frames" ]
+}
+
+# The same with the sources of dwcheck-dl compiled so, as those of the tests are.
+dl_modules_checked() { # FLAG..
+    mkdir -p "$out/checked" && (cd "$out/checked" && rm -f ./* && cc -std=gnu11 -O1 -g -fPIC -fasynchronous-unwind-tables "$@" \
+        "-I$top/c/include" -c "$top"/c/dl/*.c && ar rcs checked.a *.o) &&
+        dl_library=$out/checked/checked.a build_dl dl_modules "$@" && run_dl_modules
+}
+
+# Without _dl_find_object, walks know the modules that were listed.
+by_list() {
+    mkdir -p "$out/list" && (cd "$out/list" && cc -std=gnu11 -O2 -fPIC -fasynchronous-unwind-tables -Wall -Wextra -Werror \
+        -DDWCHECK_DL_WITH_LIST "-I$top/c/include" -c "$top"/c/dl/*.c && ar rcs list.a *.o) &&
+        dl_library=$out/list/list.a linked
+}
+
+# Over the shared library, which exports what its header declares and nothing else.
+shared() {
+    local dl=$(ls "$top"/build/libdwcheck-dl.so.*.*.*) all=$(ls "$top"/build/libdwcheck.so.*.*.*)
+    ln -sf "$all" "$out/libdwcheck.so.2" && ln -sf "$dl" "$out/libdwcheck-dl.so.2" &&
+        LD_LIBRARY_PATH=$out dl_library=$dl library=$all linked &&
+        diff <(nm -D --defined-only "$dl" | sed -n 's/.* T \(dwcheck_[a-z_]*\).*/\1/p' | sort) \
+            <(cc -E -P "$top/c/include/dwcheck-dl.h" | grep -o 'dwcheck_dl_[a-z_]*(' | tr -d '(' | sort -u)
+}
+
+# The program of docs/OWN_STACKS.md, whose handler makes one call, and which makes none before, prints gdb's frames.
+handler_of_page() {
+    sed -n '/^```c$/,/^```$/p' "$top/docs/OWN_STACKS.md" | grep -v '^```' > "$out/page.c"
+    printf 'frame = gdb.newest_frame()\nwhile frame:\n    print("gdb %%#x" %% frame.pc())\n    frame = frame.older()\n' > "$out/frames.py"
+    cc -O1 -g "-I$top/c/include" "$out/page.c" "$dl_library" "$library" -o "$out/page" -pthread -ldl || return 1
+    if [ -n "${DWCHECK_NO_PTRACE:-}" ]; then
+        [ "$("$out/page" 2>&1 | grep -c '\[0x')" = 4 ]
+        return
+    fi
+    gdb -q -batch -ex 'set backtrace past-main on' -ex run -x "$out/frames.py" -ex continue "$out/page" > "$out/shown" 2>&1
+    [ "$(grep -c '^gdb 0x' "$out/shown")" = 4 ] &&
+        diff <(sed -n 's/^gdb //p' "$out/shown") <(sed -n 's/.*\[\(0x[0-9a-f]*\)\]$/\1/p' "$out/shown")
 }
 
 other_object() { # FLAG..: prints what both.c prints with another object of many functions that is compiled so
@@ -228,7 +287,16 @@ test_of "walks with kept rows under valgrind" kept_rows_under_valgrind
 test_of "walks with kept rows up own stacks" kept_rows_of_stacks
 test_of "walks with kept rows up own stacks, with ASan and UBSan" kept_rows_of_stacks -fsanitize=address,undefined -fno-sanitize-recover=all
 test_of "walks with kept rows up own stacks under valgrind" kept_rows_of_stacks_under_valgrind
-test_of "stacks of dwcheck-dl are glibc's, while libraries come and go" dl
+test_of "stacks of dwcheck-dl are glibc's, with nothing called before" dl dl
+test_of "stacks of dwcheck-dl are glibc's, while libraries come and go" dl_modules
+test_of "stacks of dwcheck-dl are glibc's, while libraries without build ids come and go" dl_modules -Wl,--build-id=none
+test_of "the same with TSan" dl_modules_checked -fsanitize=thread
+test_of "the same with ASan and UBSan" dl_modules_checked -fsanitize=address,undefined -fno-sanitize-recover=all
+test_of "walks that interrupt walks, or come after walks that were left" dl dl_left
+test_of "the handler of docs/OWN_STACKS.md prints gdb's stack" handler_of_page
+test_of "stacks over the shared library" shared
+test_of "a stack where modules are listed" by_list
+test_of "the header says how much stack walks take" env "LIBRARY=$library" "DL_LIBRARY=$dl_library" "$top/tools/stack_use.py"
 test_of "rows are given to the code of a module, which stays the same" rows_of_modules
 test_of "a module without attributes is compiled" modules_without_attributes
 test_of "other calls of clang stay as they are, and a failure is one line" other_words

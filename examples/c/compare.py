@@ -2,8 +2,8 @@
 program prints are those that gdb finds. `stack` is stopped in its function `printed`, `crash` where
 it crashes, before its handler runs.
 
-gdb's level 0 is the frame of `printed`, or of the null pointer that `crash` has called. Neither is
-printed, so gdb's level 1 is frame 0. The address of frame 0 of `stack` isn't compared, because the
+gdb's level 0 is the frame of `printed`, which isn't printed, or of the null pointer that `crash` has called, which
+is. The address of frame 0 of `stack` isn't compared, because the
 function has run on since it took its registers. gdb says of the outermost frame, `_start`, that its
 canonical frame address is 0, so that isn't compared either.
 """
@@ -16,10 +16,10 @@ import gdb
 LINE = re.compile(r"frame (\d+) (0x[0-9a-f]{16})(?: cfa (0x[0-9a-f]{16}))?(?: \S+\+0x[0-9a-f]+)?$")
 
 
-def levels():
-    """The address and the canonical frame address of each of gdb's frames, those of level 1 first.
+def levels(frame):
+    """The address and the canonical frame address of each of gdb's frames from this one on.
     Frames of inlined functions are left out, since they aren't on the stack."""
-    found, frame = [], gdb.newest_frame().older()
+    found = []
     while frame is not None:
         if frame.type() != gdb.INLINE_FRAME:
             frame.select()
@@ -50,8 +50,8 @@ try:
     gdb.execute("set breakpoint pending on")
     gdb.execute("break printed")
     gdb.execute("run > %s 2>&1" % path)
-    expected = levels()
     has_crashed = int(gdb.parse_and_eval("$_siginfo.si_signo")) == signal.SIGSEGV
+    expected = levels(gdb.newest_frame() if has_crashed else gdb.newest_frame().older())
     if has_crashed:
         gdb.execute("continue")
     if compare(path, expected, not has_crashed) < int(gdb.convenience_variable("least")):

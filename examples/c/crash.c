@@ -1,9 +1,7 @@
 /* An example program: it crashes in a thread, by a call of a null pointer, and prints the stack of that
-   thread. The handler of SIGSEGV runs on an alternate stack of 8 KB, and makes only calls that a
-   signal handler may make. */
+   thread. The handler of SIGSEGV runs on an alternate stack of 8 KB, and makes only calls that a signal handler may
+   make. Nothing of the library is called before. */
 #define _GNU_SOURCE
-#include "state.h"
-
 #include <dwcheck-dl.h>
 #include <pthread.h>
 #include <signal.h>
@@ -11,8 +9,7 @@
 #include <sys/mman.h>
 #include <unistd.h>
 
-/* The red zone of 128 bytes below the stack pointer belongs to the interrupted function. */
-enum { DEPTH = 10, FRAMES = 64, PAGE = 4096, ALTERNATE = 2 * PAGE, RED_ZONE = 128 };
+enum { DEPTH = 10, FRAMES = 64, PAGE = 4096, ALTERNATE = 2 * PAGE };
 
 /* ---- writing text: a line is put together here, and written by one call */
 
@@ -47,49 +44,26 @@ static void write_line(void) {
    only one crash come here. When the handler returns, the program crashes again, and the signal ends
    it. */
 
-static uint64_t registers[REGISTERS];
-static dwcheck_frame frames[FRAMES];
-static dwcheck_state state;
-static dwcheck_block stack;
-static const dwcheck_process *process;
+static dwcheck_register_frame frames[FRAMES];
 
-/* Writes a frame. `inside` is an address within its instruction, and is the frame's own address or,
-   where that is a return address, the one before. The module's file and the address in the file are
-   what addr2line needs. */
-static void write_frame(size_t number, const dwcheck_frame *frame, uint64_t inside) {
-    dwcheck_loaded module;
-    put_text("frame "), put_decimal(number), put_text(" "), put_address(frame->address);
-    if (frame->cfa.kind == DWCHECK_ANSWER_VALUE) put_text(" cfa "), put_address(frame->cfa.value);
-    if (dwcheck_module_at(process, inside, &module) == DWCHECK_DONE) {
-        put_text(" "), put_text((const char *)(uintptr_t)module.cookie);
-        put_text("+"), put_address(inside - module.load_address);
-    }
+/* Writes a frame. An address within its instruction is the frame's own address or, where that is a return
+   address, the one before. The module's file and the address in the file are what addr2line needs. */
+static void write_frame(size_t number, const dwcheck_register_frame *frame) {
+    const uint64_t inside = frame->place.key - 1;
+    dwcheck_dl_loaded module;
+    put_text("frame "), put_decimal(number), put_text(" "), put_address(frame->place.address);
+    if (frame->cfa != 0) put_text(" cfa "), put_address(frame->cfa);
+    if (dwcheck_dl_module_at(inside, &module) == DWCHECK_DONE)
+        put_text(" "), put_text(module.name), put_text("+"), put_address(inside - module.load_address);
     write_line();
 }
 
+/* The first frame is that of the address 0, which was called, and the second one made the call. */
 static void on_crash(int signal, siginfo_t *why, void *context) {
     (void)signal, (void)why;
-    copy_registers(context, registers);
-    /* A call of a null pointer has pushed its return address and done nothing else, and there is no
-       row for the address 0. So the walk begins with the function that made the call. */
-    stack = dwcheck_dl_stack(registers[7]);
-    size_t is_after_call = registers[16] == 0 && stack.length >= 8;
-    if (is_after_call) {
-        registers[16] = *(const uint64_t *)(uintptr_t)registers[7];
-        registers[7] += 8;
-    }
-    /* After an overflow the stack pointer is in a page that can't be read. */
-    uint64_t at = registers[7] - RED_ZONE;
-    for (int i = 0; i < 256 && (stack = dwcheck_dl_stack(at)).length == 0; i++) at = (at | 4095) + 1;
-    state = state_of(registers, &stack);
-    size_t count = 0;
-    uint32_t stop;
-    dwcheck_fault fault;
-    process = dwcheck_dl_begin();
-    dwcheck_backtrace(process, registers[16] - is_after_call, &state, frames, FRAMES, &count, &stop, &fault);
-    frames[0].address = registers[16]; /* and not the address that was looked up */
-    for (size_t i = 0; i < count; i++) write_frame(i, &frames[i], frames[i].address - (i > 0 || is_after_call));
-    dwcheck_dl_end();
+    dwcheck_dl_request request = {.context = context};
+    int count = dwcheck_dl_frames(&request, frames, FRAMES);
+    for (int i = 0; i < count; i++) write_frame((size_t)i, &frames[i]);
 }
 
 /* Gives the calling thread an alternate stack for the handler, since its own stack may have no room
@@ -120,7 +94,6 @@ static void *work(void *unused) {
 int main(void) {
     pthread_t worker;
     if (!prepare_thread()) return 1;
-    if (dwcheck_dl_update(NULL) != DWCHECK_DONE) return 1;
     struct sigaction action = {.sa_sigaction = on_crash, .sa_flags = SA_SIGINFO | SA_ONSTACK | SA_RESETHAND};
     if (sigaction(SIGSEGV, &action, NULL) != 0) return 1;
     if (pthread_create(&worker, NULL, work, NULL) != 0) return 1;

@@ -38,27 +38,14 @@ __attribute__((noinline)) static void print_stack(void) {
 
 #else
 
-#include "state.h"
 #include <dwcheck-dl.h>
 
 __attribute__((noinline)) static void print_stack(void) {
-    /* What a step writes isn't on the stack, since the step reads the stack. */
-    static dwcheck_cursor cursor;
-    static dwcheck_frame frame;
-    static dwcheck_fault fault;
-    ucontext_t context;
-    uint64_t registers[REGISTERS];
-    if (dwcheck_dl_update(NULL) != DWCHECK_DONE) abort();
-    getcontext(&context);                                                /* unw_getcontext */
-    copy_registers(&context, registers);
-    dwcheck_block stack = dwcheck_dl_stack(registers[7]);
-    dwcheck_state state = state_of(registers, &stack);
-    if (dwcheck_cursor_init(&cursor, registers[16], &state, 1, &fault) != DWCHECK_DONE) abort(); /* unw_init_local2 */
-    const dwcheck_process *process = dwcheck_dl_begin();
-    while (dwcheck_cursor_step(process, &cursor, &state, &frame) == DWCHECK_DONE /* unw_step */
-           && cursor.stage <= DWCHECK_CURSOR_CALLER)
-        print_frame(cursor.address, cursor.contents[7]);                 /* unw_get_reg */
-    dwcheck_dl_end();
+    enum { MOST = 64 };
+    dwcheck_register_frame frames[MOST];
+    dwcheck_dl_request request = {.context = NULL};        /* unw_getcontext, unw_init_local2 */
+    int count = dwcheck_dl_frames(&request, frames, MOST); /* unw_step */
+    for (int i = 1; i < count; i++) print_frame(frames[i].place.address, frames[i].place.stack_pointer); /* unw_get_reg */
 }
 
 #endif

@@ -1,6 +1,5 @@
 /* An example program: a small sampling profiler. Its signal handler walks the stack of the thread that
-   it interrupts, whichever thread that is, and stores the frames. All threads walk with one process,
-   without a lock. At the end the main thread counts how often each stack occurs, and prints the
+   it interrupts, whichever thread that is, and stores the frames. Walks take no lock. At the end the main thread counts how often each stack occurs, and prints the
    stacks that occurred most often. */
 #define _GNU_SOURCE
 #include <dlfcn.h>
@@ -47,6 +46,7 @@ __attribute__((noinline)) void seldom(void) { sink = square_roots(10000) + 2; }
 
 void *work(void *unused) {
     (void)unused;
+    dwcheck_dl_thread(); /* not needed, but so the walks of this thread are faster */
     sigset_t profile;
     sigemptyset(&profile);
     sigaddset(&profile, SIGPROF);
@@ -109,7 +109,6 @@ static void print_stacks(void) {
 }
 
 int main(void) {
-    if (dwcheck_dl_update(NULL) != DWCHECK_DONE) return 1;
     struct sigaction action = {.sa_sigaction = on_profile, .sa_flags = SA_SIGINFO | SA_RESTART};
     sigaction(SIGPROF, &action, NULL);
     sigset_t profile;

@@ -1,6 +1,6 @@
 #!/bin/sh
 # Builds the examples and runs them. The frames that `stack`, `crash`, `attach` and `core` print must be
-# those that gdb finds in the same process or core file. The first one that `crash` prints must be in the function `deep`,
+# those that gdb finds in the same process or core file. The second one that `crash` prints must be in the function `deep`,
 # by its file and its address there. A stack that `profiler` prints must contain the function `often`. The CFA that
 # `in_place` finds must be the compiler's.
 # usage: examples/c/run.sh
@@ -15,14 +15,15 @@ build="-std=gnu11 -Wall -Wextra -Werror -O2 -g -fno-optimize-sibling-calls -rdyn
 for program in stack crash profiler attach core in_place; do
     case $program in
     attach | core) with=$here/remote.c ;;
-    *) with=$here/state.c ;;
+    in_place) with=$here/state.c ;;
+    *) with= ;;
     esac
-    # $build and $library aren't quoted, because each is a list of words.
-    "${CC:-cc}" $build "$here/$program.c" "$with" $library -pthread -ldl -o "$out/$program"
+    # $build, $with and $library aren't quoted, because each is a list of words.
+    "${CC:-cc}" $build "$here/$program.c" $with $library -pthread -ldl -o "$out/$program"
 done
 
 # $build and $library aren't quoted, for the same reason.
-"${CC:-cc}" $build "$here/moved.c" "$here/state.c" $library -pthread -ldl -o "$out/moved"
+"${CC:-cc}" $build "$here/moved.c" $library -pthread -ldl -o "$out/moved"
 "${CC:-cc}" $build -DLIBUNWIND "$here/moved.c" -lunwind -o "$out/before"
 
 # It waits, and lets any process trace it.
@@ -83,10 +84,10 @@ compared() { # PROGRAM LEAST: its frames, at least LEAST of them, are compared w
 
 compared stack 43
 ulimit -c 0
-compared crash 13
-place=$(sed -n 's/^frame 0 .* \(.*\)+\(0x.*\)$/-e \1 \2/p' "$out/frames")
+compared crash 14
+place=$(sed -n 's/^frame 1 .* \(.*\)+\(0x.*\)$/-e \1 \2/p' "$out/frames")
 addr2line -f $place | grep -qx deep
-echo "ok crash: frame 0 is in deep"
+echo "ok crash: frame 1 is in deep"
 "$out/before" > "$out/theirs"
 "$out/moved" | diff - "$out/theirs"
 [ "$(grep -c deep "$out/theirs")" -eq 11 ]

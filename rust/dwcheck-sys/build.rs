@@ -18,11 +18,23 @@ const NAMES: &str = "DWCHECK_LIBS";
 /// The major version of the library's interface that this crate is for.
 const MAJOR: &str = "2";
 
-/// The same in pkg-config's words.
-const VERSIONS: &str = "dwcheck >= 2 dwcheck < 3";
+/// The same in pkg-config's words, without and with the feature `dl`.
+const VERSIONS: [&str; 2] = [
+    "dwcheck >= 2 dwcheck < 3",
+    "dwcheck-dl >= 2 dwcheck-dl < 3 dwcheck >= 2 dwcheck < 3",
+];
 
-/// The library to link if DWCHECK_LIBS isn't set.
-const LIBRARY: &str = "dwcheck";
+/// The libraries to link if DWCHECK_LIBS isn't set. The first one is for the feature `dl`, and uses the second one.
+const LIBRARIES: [&str; 2] = ["dwcheck-dl", "dwcheck"];
+
+/// Whether the crate is built with the feature `dl`.
+fn has_dl() -> bool {
+    env::var_os("CARGO_FEATURE_DL").is_some()
+}
+
+fn versions() -> &'static str {
+    VERSIONS[usize::from(has_dl())]
+}
 
 /// Why the library can't be linked.
 #[derive(Debug)]
@@ -56,7 +68,9 @@ impl fmt::Display for Error {
                 write!(
                     f,
                     "pkg-config doesn't find {}; set {}\n{}",
-                    VERSIONS, DIRS, why
+                    versions(),
+                    DIRS,
+                    why
                 )
             }
             Error::NoText(why) => why.fmt(f),
@@ -97,7 +111,8 @@ struct Found {
     file: PathBuf,
 }
 
-/// Links the libraries that DWCHECK_LIBS names, or else `dwcheck`, from the folders that DWCHECK_LIB_DIR lists.
+/// Links the libraries that DWCHECK_LIBS names, or else `dwcheck` (and `dwcheck-dl`), from the folders that
+/// DWCHECK_LIB_DIR lists.
 fn link_from_folders(dirs: &OsStr) -> Result<(), Error> {
     let folders: Vec<PathBuf> = env::split_paths(dirs).collect();
     let found = match env::var(NAMES) {
@@ -108,7 +123,7 @@ fn link_from_folders(dirs: &OsStr) -> Result<(), Error> {
                 .collect();
             find_libraries(&folders, &names)?
         }
-        Err(_) => find_libraries(&folders, &[LIBRARY])?,
+        Err(_) => find_libraries(&folders, &LIBRARIES[usize::from(!has_dl())..])?,
     };
     for library in found {
         check_version(&library.folder)?;
@@ -172,7 +187,7 @@ fn find_library(folders: &[PathBuf], name: &str) -> Result<Found, Error> {
 fn link_by_pkg_config() -> Result<(), Error> {
     let program = env::var_os("PKG_CONFIG").unwrap_or_else(|| OsString::from("pkg-config"));
     let output = Command::new(program)
-        .args(["--libs", VERSIONS])
+        .args(["--libs", versions()])
         .output()
         .map_err(Error::NoPkgConfig)?;
     if !output.status.success() {

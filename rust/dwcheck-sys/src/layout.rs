@@ -1,5 +1,5 @@
-//! Tests that the structures and constants are those of `dwcheck.h`: a C program that
-//! includes the header prints sizes, offsets and numbers, which are compared with Rust's.
+//! Tests that the structures and constants are those of `dwcheck.h`, and of `dwcheck-dl.h`: a C program that
+//! includes the headers prints sizes, offsets and numbers, which are compared with Rust's.
 
 use std::env;
 use std::fs;
@@ -72,6 +72,8 @@ fn layouts() -> (String, String) {
         layout!(Piece, "dwcheck_piece": value kind size bit_offset is_bits),
         layout!(Lookup, "dwcheck_lookup": base address list reserved),
         layout!(Location, "dwcheck_location": offset length),
+        #[cfg(feature = "dl")]
+        layout!(DlRequest, "dwcheck_dl_request": context marks options stop reserved),
     ];
     all.into_iter().unzip()
 }
@@ -110,7 +112,15 @@ fn constants() -> (String, String) {
         LOCATION_VALUE "LOCATION_VALUE" LOCATION_BYTES "LOCATION_BYTES"
         LOCATION_PIECES "LOCATION_PIECES" MAX_PIECES "MAX_PIECES"
     };
+    #[cfg(feature = "dl")]
+    let of_dl = numbers! {
+        DL_BY_ROW "DL_BY_ROW" DL_BY_CALL "DL_BY_CALL" DL_BY_FRAME_POINTER "DL_BY_FRAME_POINTER"
+        DL_FRAME_POINTERS "DL_FRAME_POINTERS" DL_STOP_REFUSED "DL_STOP_REFUSED" DL_STOP_STACK "DL_STOP_STACK"
+    };
+    #[cfg(not(feature = "dl"))]
+    let of_dl: [(&str, u64); 0] = [];
     all.iter()
+        .chain(of_dl.iter())
         .map(|(name, number)| {
             let line = format!("{} {}\n", name, number);
             let statement = format!("printf(\"{0} %d\\n\", (int){0});\n", name);
@@ -136,7 +146,7 @@ fn run_c(include: &Path, statements: &str) -> Option<String> {
     fs::create_dir_all(&folder).unwrap();
     let (source, program) = (folder.join("layout.c"), folder.join("layout"));
     let text = format!(
-        "#include <stdio.h>\n#include \"dwcheck.h\"\nint main(void) {{\n{}return 0;\n}}\n",
+        "#include <stdio.h>\n#include \"dwcheck-dl.h\"\nint main(void) {{\n{}return 0;\n}}\n",
         statements
     );
     fs::write(&source, text).unwrap();

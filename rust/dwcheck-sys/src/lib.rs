@@ -26,11 +26,15 @@
 #![warn(rust_2018_idioms, unreachable_pub)]
 
 mod calls;
+#[cfg(feature = "dl")]
+mod dl;
 mod kept_rows;
 #[cfg(test)]
 mod layout;
 
 pub use calls::*;
+#[cfg(feature = "dl")]
+pub use dl::*;
 pub use kept_rows::*;
 
 use std::mem::MaybeUninit;

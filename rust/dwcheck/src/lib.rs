@@ -51,6 +51,8 @@ mod expression;
 mod fault;
 mod ffi;
 mod frame_section;
+#[cfg(feature = "dl")]
+mod here;
 mod in_place;
 mod kept_rows;
 #[cfg(test)]
@@ -77,6 +79,8 @@ pub use expression::{
 };
 pub use fault::{Error, Fault, FaultKind, Section};
 pub use frame_section::{Contents, FrameSection, Record, RecordKind, Records};
+#[cfg(feature = "dl")]
+pub use here::{here, know_own_stack, OwnFrame, OwnStack, MOST_FRAMES};
 pub use in_place::EhFrameInPlace;
 pub use kept_rows::{Filled, KeptRows, KeptStop, RegisterFrame, RegisterPlace, StackPlace};
 pub use lists::{list_locations, locations, Lookup};

@@ -1,0 +1,20 @@
+/* The file of a module that is loaded, and its sections. */
+#ifndef DWCHECK_DL_FILES_H
+#define DWCHECK_DL_FILES_H
+
+#include "image.h"
+
+/* The file of the program itself, for which the loader gives an empty name. It can be opened even if the file has been
+   deleted or replaced since. */
+#define DWCHECK_DL_PROGRAM "/proc/self/exe"
+
+/* Maps the file of a module, if it is still the one that was loaded: its segments and its notes are those in memory.
+   Else, or if it can't be read, the length is 0. munmap takes it back. */
+DWCHECK_DL_HIDDEN struct dwcheck_dl_bytes dwcheck_dl_map_file(const struct dl_phdr_info *info);
+
+/* The .debug_frame section of such a file, if it isn't compressed, and if the code in memory is that of the file:
+   without a build id among the notes, only this tells whether the file has been replaced. Else of length 0. */
+DWCHECK_DL_HIDDEN struct dwcheck_dl_bytes dwcheck_dl_debug_frame_of(struct dwcheck_dl_bytes file,
+                                                                    const struct dl_phdr_info *info);
+
+#endif

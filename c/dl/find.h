@@ -1,0 +1,56 @@
+/* Finds the module of an address in this process, and its tables, at any moment: by _dl_find_object of glibc 2.35 and
+   later, which takes no lock and which signal handlers may call. */
+#ifndef DWCHECK_DL_FIND_H
+#define DWCHECK_DL_FIND_H
+
+#include "dwcheck.h"
+#include <link.h>
+#include <stdbool.h>
+
+#define DWCHECK_DL_HIDDEN __attribute__((visibility("hidden")))
+
+/* What the loader says of the module that has an address. Two modules with the same values may still differ, if one has
+   been loaded in the place of the other. */
+struct dwcheck_dl_object {
+    uint64_t first, end;        /* its addresses: from the first one up to, but not including, `end` */
+    const uint8_t *header;      /* its .eh_frame_hdr section; NULL if it has none */
+    const struct link_map *map; /* NULL for code that the program has registered */
+    uint64_t number;            /* of registered code; else 0 */
+};
+
+/* A module with its tables, and what tells it from another one with the same object. */
+struct dwcheck_dl_module {
+    struct dwcheck_dl_object object;
+    const uint8_t *frame, *table; /* its section, and the header with its search table */
+    size_t frame_length, table_length;
+    uint64_t load_address, frame_address, table_address; /* the addresses are as linked */
+    const uint8_t *id; /* its build id, or if it has none on its first page, the beginning of its section */
+    size_t id_length;
+    uint64_t identity; /* a checksum of these bytes */
+    uint64_t layout;   /* one of its name and its segments, if it has no build id; else 0 */
+    uint64_t prepared; /* which dwcheck_dl_prepare was the last one before */
+};
+
+/* Writes what the loader says of the module that has an address, or what the program has registered for it. Returns
+   whether there is one. */
+DWCHECK_DL_HIDDEN bool dwcheck_dl_find(uint64_t address, struct dwcheck_dl_object *object);
+
+/* Reads the module of an object: its tables and its identity. If it has no tables, frame_length is 0. A module that is
+   found so must not be unloaded meanwhile, which no module is that has a frame on the stack. */
+DWCHECK_DL_HIDDEN void dwcheck_dl_describe(const struct dwcheck_dl_object *object, struct dwcheck_dl_module *module);
+
+/* Whether an object, which has just been found, is the module that was described earlier. */
+DWCHECK_DL_HIDDEN bool dwcheck_dl_is_same(const struct dwcheck_dl_module *module, const struct dwcheck_dl_object *object);
+
+/* The module's section and its header, for the calls of dwcheck.h. */
+static inline dwcheck_module dwcheck_dl_section_of(const struct dwcheck_dl_module *module) {
+    return (dwcheck_module){.frame = module->frame, .frame_length = module->frame_length, .load_address = module->load_address,
+                            .order = DWCHECK_LITTLE, .address_size = sizeof(void *), .kind = DWCHECK_EH_FRAME,
+                            .section_address = module->frame_address, .room = SIZE_MAX};
+}
+
+static inline dwcheck_header dwcheck_dl_header_of(const struct dwcheck_dl_module *module) {
+    return (dwcheck_header){module->table, module->table_length, module->table_address};
+}
+
+#endif

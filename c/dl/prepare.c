@@ -1,0 +1,197 @@
+/* Reads .debug_frame of modules, for walks that come later. */
+#define _GNU_SOURCE
+#include "both.h"
+#include "dwcheck-dl.h"
+#include "files.h"
+#include "list.h"
+#include "prepared.h"
+#include "retired.h"
+
+#include <pthread.h>
+#include <stdatomic.h>
+#include <stdlib.h>
+#include <string.h>
+#include <sys/mman.h>
+
+/* A section that was made for a module, after its search table, in one piece of memory. */
+struct made {
+    struct dwcheck_dl_retired retired;
+    struct made *_Atomic next;
+    struct dwcheck_dl_object object;
+    uint64_t identity, layout;
+    uint64_t load_address, frame_address; /* the latter is as linked */
+    size_t table_length, frame_length;
+    bool is_there;
+    uint8_t bytes[];
+};
+
+static struct made *_Atomic all;
+static _Atomic uint64_t preparations;
+
+/* Only the thread that holds the lock uses what follows. */
+static pthread_mutex_t lock = PTHREAD_MUTEX_INITIALIZER;
+static struct dwcheck_dl_retired *retired;
+
+uint64_t dwcheck_dl_preparations(void) { return atomic_load(&preparations); }
+
+/* Whether a section was made for the module that is described. */
+static bool is_for(const struct made *made, const struct dwcheck_dl_module *module) {
+    return made->object.first == module->object.first && made->object.end == module->object.end
+           && made->object.map == module->object.map && made->identity == module->identity && made->layout == module->layout;
+}
+
+static struct made *find(const struct dwcheck_dl_module *module) {
+    struct made *made = atomic_load(&all);
+    while (made != NULL && !is_for(made, module)) made = atomic_load(&made->next);
+    return made;
+}
+
+void dwcheck_dl_use_prepared(struct dwcheck_dl_module *module) {
+    module->prepared = dwcheck_dl_preparations();
+    const struct made *made = find(module);
+    if (made == NULL) return;
+    module->frame = made->bytes + made->table_length, module->frame_length = made->frame_length;
+    module->table = made->bytes, module->table_length = made->table_length;
+    module->frame_address = module->table_address = made->frame_address;
+    module->load_address = made->load_address;
+}
+
+/* ---- making a section */
+
+/* The code of a module, as linked: from the first to the last address of the segments that may be executed. */
+struct code {
+    uint64_t first, last;
+};
+
+static bool find_code(const struct dl_phdr_info *info, struct code *code) {
+    *code = (struct code){UINT64_MAX, 0};
+    for (size_t i = 0; i < info->dlpi_phnum; i++) {
+        const ElfW(Phdr) *segment = &info->dlpi_phdr[i];
+        if (segment->p_type != PT_LOAD || !(segment->p_flags & PF_X) || segment->p_memsz == 0) continue;
+        if (segment->p_vaddr < code->first) code->first = segment->p_vaddr;
+        if (segment->p_vaddr + segment->p_memsz - 1 > code->last) code->last = segment->p_vaddr + segment->p_memsz - 1;
+    }
+    return code->first <= code->last;
+}
+
+/* A section and its table, of which malloc gave the bytes. */
+struct pieces {
+    uint8_t *frame, *table;
+    size_t frame_length, table_length;
+};
+
+/* Makes them of what .eh_frame, at this address as linked, and .debug_frame say. */
+static uint32_t make_pieces(struct pieces *pieces, const struct code *code, uint64_t address, struct dwcheck_dl_bytes frame,
+                            struct dwcheck_dl_bytes debug_frame) {
+    dwcheck_module module = {.frame = frame.first, .frame_length = frame.length, .section_address = address,
+                             .order = DWCHECK_LITTLE, .address_size = sizeof(void *), .kind = DWCHECK_EH_FRAME};
+    dwcheck_module other = module;
+    other.kind = DWCHECK_DEBUG_FRAME;
+    other.frame = debug_frame.first, other.frame_length = debug_frame.length;
+    uint32_t status = dwcheck_dl_both(&module, &other, code->first, code->last, &pieces->frame, &pieces->frame_length);
+    if (status != DWCHECK_DONE) return status;
+    module.frame = pieces->frame, module.frame_length = pieces->frame_length;
+    return dwcheck_dl_table(&module, &pieces->table, &pieces->table_length);
+}
+
+/* Joins them. Returns NULL if there isn't enough memory. */
+static struct made *joined(const struct pieces *pieces) {
+    struct made *made = malloc(sizeof *made + pieces->table_length + pieces->frame_length);
+    if (made == NULL) return NULL;
+    *made = (struct made){.table_length = pieces->table_length, .frame_length = pieces->frame_length};
+    if (pieces->table_length != 0) memcpy(made->bytes, pieces->table, pieces->table_length);
+    memcpy(made->bytes + pieces->table_length, pieces->frame, pieces->frame_length);
+    return made;
+}
+
+/* Makes the section of a module. Returns DWCHECK_NONE if its .debug_frame says nothing that .eh_frame doesn't. */
+static uint32_t make(struct made **made, const struct dl_phdr_info *info, struct dwcheck_dl_bytes frame,
+                     struct dwcheck_dl_bytes debug_frame) {
+    struct pieces pieces = {NULL, NULL, 0, 0};
+    struct code code;
+    if (debug_frame.length == 0 || !find_code(info, &code)) return DWCHECK_NONE;
+    const uint64_t address = frame.length ? (uintptr_t)frame.first - info->dlpi_addr : code.first;
+    uint32_t status = make_pieces(&pieces, &code, address, frame, debug_frame);
+    if (status == DWCHECK_DONE && (*made = joined(&pieces)) == NULL) status = DWCHECK_NO_MEMORY;
+    free(pieces.frame);
+    free(pieces.table);
+    if (status == DWCHECK_DONE) (*made)->load_address = info->dlpi_addr, (*made)->frame_address = address;
+    return status;
+}
+
+/* ---- all modules */
+
+struct preparation {
+    uint32_t status;
+    bool is_changed;
+};
+
+/* Describes the module of an entry of the loader's list. */
+static bool describe(const struct dl_phdr_info *info, struct dwcheck_dl_module *module) {
+    struct dwcheck_dl_object object;
+    struct code code;
+    if (!find_code(info, &code) || !dwcheck_dl_find(info->dlpi_addr + code.first, &object) || object.map == NULL) return false;
+    dwcheck_dl_describe(&object, module);
+    return true;
+}
+
+/* The module's own .eh_frame, exactly as long as it is. */
+static struct dwcheck_dl_bytes frame_of(const struct dwcheck_dl_module *module, const struct dl_phdr_info *info) {
+    if (module->object.header != NULL) return dwcheck_dl_records_of(info, module->object.header);
+    return (struct dwcheck_dl_bytes){module->frame, module->frame_length};
+}
+
+static uint32_t make_for(const struct dwcheck_dl_module *module, const struct dl_phdr_info *info, struct made **made) {
+    const struct dwcheck_dl_bytes file = dwcheck_dl_map_file(info);
+    if (file.length == 0) return DWCHECK_NONE;
+    const uint32_t status = make(made, info, frame_of(module, info), dwcheck_dl_debug_frame_of(file, info));
+    munmap((void *)file.first, file.length);
+    return status;
+}
+
+static int look(struct dl_phdr_info *info, size_t size, void *data) {
+    struct preparation *preparation = data;
+    struct dwcheck_dl_module module;
+    struct made *made;
+    (void)size;
+    if (!describe(info, &module)) return 0;
+    if ((made = find(&module)) != NULL) return made->is_there = true, 0;
+    const uint32_t status = make_for(&module, info, &made);
+    if (status == DWCHECK_NO_MEMORY) preparation->status = status;
+    if (status != DWCHECK_DONE) return 0;
+    made->object = module.object, made->identity = module.identity, made->layout = module.layout, made->is_there = true;
+    atomic_store(&made->next, atomic_load(&all));
+    atomic_store(&all, made);
+    preparation->is_changed = true;
+    return 0;
+}
+
+/* Takes those away whose modules are gone. */
+static void remove_gone(struct preparation *preparation) {
+    for (struct made *_Atomic *at = &all; atomic_load(at) != NULL;) {
+        struct made *made = atomic_load(at);
+        if (made->is_there) {
+            at = &made->next;
+            continue;
+        }
+        atomic_store(at, atomic_load(&made->next));
+        dwcheck_dl_retire(&retired, &made->retired);
+        preparation->is_changed = true;
+    }
+}
+
+uint32_t dwcheck_dl_prepare(void) {
+    struct preparation preparation = {.status = DWCHECK_DONE};
+    int cancel;
+    if (dwcheck_dl_list() != DWCHECK_DONE) return DWCHECK_NO_MEMORY;
+    pthread_setcancelstate(PTHREAD_CANCEL_DISABLE, &cancel); /* open and close would leave with the lock held */
+    pthread_mutex_lock(&lock);
+    for (struct made *made = atomic_load(&all); made != NULL; made = atomic_load(&made->next)) made->is_there = false;
+    dl_iterate_phdr(look, &preparation);
+    remove_gone(&preparation);
+    if (preparation.is_changed) atomic_fetch_add(&preparations, 1);
+    dwcheck_dl_retire(&retired, NULL);
+    pthread_mutex_unlock(&lock);
+    pthread_setcancelstate(cancel, NULL);
+    return preparation.status;
+}
