@@ -173,14 +173,11 @@ fn fill_with_any_row(
     }
 }
 
-/// Looks up `address`, an address as loaded, in the section of `module` in place, by the table of
-/// `header`, and keeps its row in `rows` for walks, as a row of the module with the slot `slot`
-/// modulo 64. The row may take the place of another one. `NO_PLACE` says that there is a row, but
-/// that it can't be kept: walks stop there, and the frame takes a step of a cursor. A compact row, as
-/// compilers write nearly all of them, takes 4 KB of stack.
+/// Does what `dwcheck_rows_fill` does for a compact row, as compilers write nearly all of them, with
+/// little stack. `NO_ROOM` also says that the row may be another one: then `dwcheck_rows_fill` has the
+/// answer.
 #[unsafe(no_mangle)]
-pub extern "C" fn dwcheck_rows_fill(
-    alloc: Global,
+pub extern "C" fn dwcheck_rows_fill_compact(
     rows: &mut CachedRows,
     slot: u32,
     module: &CModule<'_>,
@@ -211,11 +208,49 @@ pub extern "C" fn dwcheck_rows_fill(
             keep_compact_row(rows, slot_of(slot), address, target, &row, &fde)
         }
         Ok((_, CompactAnswer::Nothing)) => NONE,
-        Ok((_, CompactAnswer::Unsure)) => {
-            fill_with_any_row(alloc, rows, slot, module, header, address, fault)
-        }
+        Ok((_, CompactAnswer::Unsure)) => NO_ROOM,
         Err(why) => no_answer(why, fault),
     }
+}
+
+/// Looks up `address`, an address as loaded, in the section of `module` in place, by the table of
+/// `header`, and keeps its row in `rows` for walks, as a row of the module with the slot `slot`
+/// modulo 64. The row may take the place of another one. `NO_PLACE` says that there is a row, but
+/// that it can't be kept: walks stop there, and the frame takes a step of a cursor. A compact row
+/// takes little stack, any other 53 KB.
+#[unsafe(no_mangle)]
+pub extern "C" fn dwcheck_rows_fill(
+    alloc: Global,
+    rows: &mut CachedRows,
+    slot: u32,
+    module: &CModule<'_>,
+    header: &CHeader<'_>,
+    address: u64,
+    fault: &mut CFault,
+) -> u32
+    ensures done { result ≡ DONE
+        → IsFilled module.now header.now (slot % SLOTS) address rows.new.rows }
+    ensures only { (other at : ℕ) (held : Row) → Holds rows.new.rows other at held
+        → Holds rows.old.rows other at held
+        ⊎ IsOfFill module.now header.now (slot % SLOTS) address other at held }
+    ensures place { result ≡ NO_PLACE → (target : OfTarget) × (fde : Fde) × (row : Row)
+        × HasRow module.now header.now address target fde row }
+    ensures dropped { result ≡ NO_PLACE → (other at : ℕ) (held : Row)
+        → Holds rows.new.rows other at held → Holds rows.old.rows other at held }
+    ensures none { result ≡ NONE → IsLookedUp module.now header.now address (Ok None) }
+    ensures refused { result ≡ REFUSED → (why : Why)
+        × IsLookedUp module.now header.now address (Err why) × (fault.new ≡ cfault_of IN_FRAME why) }
+    ensures room { result ≡ NO_ROOM → IsUsable module.now header.now }
+    ensures unusable { result ≢ DONE → result ≢ NONE → result ≢ REFUSED → result ≢ NO_ROOM
+        → result ≢ NO_PLACE → IsUnusable module.now header.now result }
+    ensures same { result ≢ DONE → result ≢ NO_PLACE → rows.new.rows ≡ rows.old.rows }
+    ensures unreported { result ≢ REFUSED → fault.new ≡ fault.old }
+{
+    let status = dwcheck_rows_fill_compact(rows, slot, module, header, address, fault);
+    if status == NO_ROOM {
+        return fill_with_any_row(alloc, rows, slot, module, header, address, fault);
+    }
+    status
 }
 
 /// Forgets the rows of the module with the slot `slot` modulo 64, which may then name another one.

@@ -188,6 +188,7 @@ pub(crate) fn look_up_compact<'a>(
 ) -> Result<(Target, CompactAnswer<'a>), NoAnswer>
     ensures found { IfOk result (λ found.
         IsLookedUpCompactly module.now header.now address found.0 found.1) }
+    ensures usable { IfOk result (λ _. IsUsable module.now header.now) }
     ensures why { IfErr result (IsNoRow module.now header.now address) }
 {
     let place = in_place(module, header)?;
