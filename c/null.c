@@ -103,6 +103,15 @@ uint32_t dwcheck_rows_fill(dwcheck_rows *rows, uint32_t slot, const dwcheck_modu
     return proved_dwcheck_rows_fill(rows, slot, &section, &table, address, fault);
 }
 
+PROVED(dwcheck_rows_fill_compact);
+uint32_t dwcheck_rows_fill_compact(dwcheck_rows *rows, uint32_t slot, const dwcheck_module *module, const dwcheck_header *header,
+                                   uint64_t address, dwcheck_fault *fault) {
+    if (module->frame && header->bytes) return proved_dwcheck_rows_fill_compact(rows, slot, module, header, address, fault);
+    const dwcheck_module section = module->frame ? *module : with_address(module);
+    const dwcheck_header table = header->bytes ? *header : header_with_address(header);
+    return proved_dwcheck_rows_fill_compact(rows, slot, &section, &table, address, fault);
+}
+
 PROVED(dwcheck_walk);
 void dwcheck_walk(dwcheck_rows *rows, uint64_t confirmed, dwcheck_place *place, const dwcheck_block *blocks,
                   size_t blocks_length, uint64_t *addresses, size_t addresses_length, size_t *count, uint32_t *stop) {

@@ -444,18 +444,24 @@ typedef struct dwcheck_rows { uint64_t words[3361]; } dwcheck_rows;
    `slot` % 64. The row may take the place of another one. Returns DONE; NO_PLACE if there is a row that can't be kept,
    at which walks stop: one with an expression, say, or that of a signal frame, or any row of another target than
    little-endian with addresses of 8 bytes; or any other status that dwcheck_row_in returns, and then the rows are as
-   they were. The call takes as much stack as dwcheck_row_in. */
+   they were. The call takes as much stack as the next one where that has the answer, and else as dwcheck_row_in. */
 uint32_t dwcheck_rows_fill(dwcheck_rows *rows, uint32_t slot, const dwcheck_module *module, const dwcheck_header *header,
                            uint64_t address, dwcheck_fault *fault);
+
+/* The same for a compact row alone, as compilers write nearly all of them: its CFA is a register plus an offset, and
+   registers below 32 are saved at offsets of 16 bits, have no rule or are undefined. Returns NO_ROOM also if the row
+   isn't compact, or if its FDE or CIE may be refused: then dwcheck_rows_fill has the answer. */
+uint32_t dwcheck_rows_fill_compact(dwcheck_rows *rows, uint32_t slot, const dwcheck_module *module,
+                                   const dwcheck_header *header, uint64_t address, dwcheck_fault *fault);
 
 /* Forgets the rows of the slot `slot` % 64, which may then name another module. */
 void dwcheck_rows_forget(dwcheck_rows *rows, uint32_t slot);
 
 /* Where a walk with kept rows is: at the frame at `address`. The address that is looked up for it is `key` - 1; so for
    the first frame, or one that a signal has interrupted, `key` is its address plus 1, and for a caller it is the return
-   address, as `address` is. The content
-   of rsp is `stack_pointer`. That of rbp is frame_pointer if is_saved is 0, else it is in memory at that address, which
-   mustn't change before the last call with the place. A place is plain data of the caller's: any bytes are a place. */
+   address, as `address` is. The content of rsp is `stack_pointer`. That of rbp is frame_pointer if is_saved is 0, else
+   it is in memory at that address, which mustn't change before the last call with the place. A place is plain data of
+   the caller's: any bytes are a place. */
 typedef struct dwcheck_place {
     uint64_t address, key, stack_pointer, frame_pointer; uint32_t is_saved, reserved;
 } dwcheck_place;
@@ -498,7 +504,7 @@ void dwcheck_walk_frames(dwcheck_rows *rows, uint64_t confirmed, dwcheck_registe
 uint32_t dwcheck_cursor_at_place(dwcheck_cursor *cursor, const dwcheck_register_place *place);
 
 /* Makes `place` that of the frame that a cursor is at, so that a walk with registers goes on there. Returns DONE; NONE if
-   the cursor's walk has ended; or NO_PLACE if a register of a place isn't known. */
+   the cursor's walk has ended; or NO_PLACE if a register of a place isn't known, or if `key` would be 2^64. */
 uint32_t dwcheck_place_of_cursor(dwcheck_register_place *place, const dwcheck_cursor *cursor);
 
 /* ---- expressions --------------------------------------------------------------------------------------------------- */

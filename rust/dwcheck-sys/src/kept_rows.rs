@@ -74,6 +74,17 @@ extern "C" {
         fault: *mut Fault,
     ) -> u32;
 
+    /// Does what dwcheck_rows_fill does, with little stack, for rows as compilers write nearly all of
+    /// them. NO_ROOM also says that the row may be another one: then dwcheck_rows_fill has the answer.
+    pub fn dwcheck_rows_fill_compact(
+        rows: *mut Rows,
+        slot: u32,
+        module: *const Module,
+        header: *const Header,
+        address: u64,
+        fault: *mut Fault,
+    ) -> u32;
+
     /// Forgets the rows of the slot `slot` % 64.
     pub fn dwcheck_rows_forget(rows: *mut Rows, slot: u32);
 
