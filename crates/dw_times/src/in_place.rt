@@ -66,9 +66,12 @@ fn ends_of_compact_rows(
             CompactAnswer::Row(row, _) => sum = sum.wrapping_add(row.end),
             CompactAnswer::Nothing => {}
             CompactAnswer::Unsure => {
-                if let Ok(Some((row, _))) =
-                    row_for_address_in(&section, table, *address, &mut memory)
-                {
+                if let Ok(Some((row, _))) = row_for_address_in(
+                    &section,
+                    table,
+                    *address,
+                    &mut memory,
+                ) {
                     sum = sum.wrapping_add(row.end_address());
                 }
             }
