@@ -9,7 +9,7 @@
 #include <sys/syscall.h>
 #include <unistd.h>
 
-enum { NEEDED = 52 << 10, SIZE = 96 << 10, STACKS = 2 };
+enum { NEEDED = 52 << 10, SIZE = 96 << 10, STACKS = 4 };
 
 /* What a look-up doesn't take is for handlers that interrupt it. */
 struct stack {
