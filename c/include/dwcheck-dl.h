@@ -10,7 +10,7 @@
      glibc, whose manual says so; memcpy, memcmp, memset and strlen, which POSIX lists; getauxval, which reads memory
      that doesn't change; and the system calls rt_sigprocmask and sigaltstack, under valgrind process_vm_readv, and in a
      static program without .eh_frame_hdr openat, pread64 and close.
-   - Rows are kept in 22 caches of 36 KB, of which only those that were used take memory. A walk has one for itself,
+   - Rows are kept in 19 caches of 36 KB, of which only those that were used take memory. A walk has one for itself,
      and if walks have all of them, it looks up each frame. siglongjmp may leave a walk, and then its cache stays out
      of use; so does one in a child of a fork that another thread had then.
    - A module of which a frame is on the stack mustn't be unloaded meanwhile (dlclose); then its code would be gone,
@@ -21,7 +21,7 @@
      libraries.
    - A walk takes 1.0 KB of stack where all rows are kept, and 2.0 KB where one is looked up or has an expression, as
      tools/stack_use.py has measured. A look-up takes 48 KB more: of the thread's own or an alternate stack, if that is
-     known to have room; else of one of four stacks of the library, so an alternate stack of 8 KB suffices. If walks
+     known to have room; else of one of six stacks of the library, so an alternate stack of 8 KB suffices. If walks
      have all of them, and they stay in use like caches if siglongjmp leaves a walk, a stack that is known to be too
      small ends the walk, and any other is used itself.
 
