@@ -50,7 +50,7 @@ DWCHECK_DL_HIDDEN void dwcheck_dl_end_reading(void);
 
 /* The claims of all caches at some moment. What was replaced before it isn't read any more, once each walk is done that
    was under way then. */
-enum { DWCHECK_DL_CACHES = 22 };
+enum { DWCHECK_DL_CACHES = 19 };
 struct dwcheck_dl_moment {
     uint64_t claims[DWCHECK_DL_CACHES];
 };

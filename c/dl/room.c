@@ -9,7 +9,7 @@
 #include <sys/syscall.h>
 #include <unistd.h>
 
-enum { NEEDED = 52 << 10, SIZE = 96 << 10, STACKS = 2 };
+enum { NEEDED = 52 << 10, SIZE = 96 << 10, STACKS = 6, FOR_ALL = 2 };
 
 /* What a look-up doesn't take is for handlers that interrupt it. */
 struct stack {
@@ -47,9 +47,10 @@ static uint64_t block_signals(void) {
     return before;
 }
 
-static int claim(void) {
-    for (int i = 0; i < STACKS; i++)
-        if (!atomic_exchange(&is_taken[i], true)) return i;
+/* Most of them are for alternate stacks, which can't do without. */
+static int claim(bool is_alternate) {
+    for (int i = is_alternate ? STACKS : FOR_ALL; i > 0; i--)
+        if (!atomic_exchange(&is_taken[i - 1], true)) return i - 1;
     return -1;
 }
 
@@ -64,7 +65,7 @@ static void call_on(int stack, bool is_alternate, void (*f)(void *data), void *d
 
 bool dwcheck_dl_call(struct dwcheck_dl_room room, void (*f)(void *data), void *data) {
     if (room.bytes >= NEEDED || (room.bytes == 0 && dwcheck_dl_is_in_valgrind())) return f(data), true;
-    const int stack = claim();
+    const int stack = claim(room.is_alternate);
     if (stack < 0) return room.bytes == 0 ? f(data), true : false;
     call_on(stack, room.is_alternate, f, data);
     atomic_store(&is_taken[stack], false);

@@ -7,9 +7,10 @@
 
    - Walks take no lock and allocate nothing; any thread may walk at any time, also in a signal handler that has
      interrupted another walk, and in the child of a fork. What they call is async-signal-safe: _dl_find_object of
-     glibc, whose manual says so; the system calls rt_sigprocmask and, under valgrind, process_vm_readv; in a static
-     program without .eh_frame_hdr also openat, read and close; memcpy, memcmp and strlen.
-   - Rows are kept in 22 caches of 36 KB, of which only those that were used take memory. A walk has one for itself,
+     glibc, whose manual says so; memcpy, memcmp, memset and strlen, which POSIX lists; getauxval, which reads memory
+     that doesn't change; and the system calls rt_sigprocmask and sigaltstack, under valgrind process_vm_readv, and in a
+     static program without .eh_frame_hdr openat, pread64 and close.
+   - Rows are kept in 19 caches of 36 KB, of which only those that were used take memory. A walk has one for itself,
      and if walks have all of them, it looks up each frame. siglongjmp may leave a walk, and then its cache stays out
      of use; so does one in a child of a fork that another thread had then.
    - A module of which a frame is on the stack mustn't be unloaded meanwhile (dlclose); then its code would be gone,
@@ -20,9 +21,9 @@
      libraries.
    - A walk takes 1.0 KB of stack where all rows are kept, and 2.0 KB where one is looked up or has an expression, as
      tools/stack_use.py has measured. A look-up takes 48 KB more: of the thread's own or an alternate stack, if that is
-     known to have room; else of one of two stacks of the library, so an alternate stack of 8 KB suffices. If walks have
-     both, which stay in use like caches if siglongjmp leaves a walk, a stack that is known to be too small ends the
-     walk, and any other is used itself.
+     known to have room; else of one of six stacks of the library, so an alternate stack of 8 KB suffices. If walks
+     have all of them, and they stay in use like caches if siglongjmp leaves a walk, a stack that is known to be too
+     small ends the walk, and any other is used itself.
 
    To link: cc .. $(pkg-config --cflags --libs dwcheck-dl); or by CMake, dwcheck::dl or dwcheck::dl_shared. */
 #ifndef DWCHECK_DL_H
@@ -74,9 +75,9 @@ typedef struct dwcheck_dl_request {
 /* Walks as the calls above do, as `request` asks. */
 int dwcheck_dl_walk(dwcheck_dl_request *request, void **addresses, int size);
 
-/* The same, and writes each frame with its address, the contents of rsp and of the callee-saved registers, and its CFA,
-   which is 0 if it isn't known. In a frame that was found by the frame pointer, the other callee-saved registers have the
-   contents of the frame before. */
+/* The same, and writes each frame with its address, the contents of rsp and of the callee-saved registers, and its
+   CFA, which is 0 if it isn't known. In a frame that was found by the frame pointer, the other callee-saved registers
+   have the contents of the frame before. */
 int dwcheck_dl_frames(dwcheck_dl_request *request, dwcheck_register_frame *frames, int size);
 
 /* The module that has an address: its first address, the one after its last, what is added to an address as linked, and
@@ -110,8 +111,8 @@ uint32_t dwcheck_dl_prepare(void);
    pointers count from where it lies, and addresses are as loaded. It must stay there until it is unregistered, and so
    must the code, as long as it may be on a stack. Its records are gone through for each new address, so make a
    section for each function or for a few. Both calls take a lock and allocate, and take time in proportion to what is
-   registered. Returns DWCHECK_DONE; DWCHECK_BAD_RANGE if `first` is above `last`; DWCHECK_OVERLAPS if some of these
-   addresses are registered; or DWCHECK_NO_MEMORY. */
+   registered. Returns DWCHECK_DONE; DWCHECK_BAD_RANGE if `first` is above `last`, or this is 2^64 - 1;
+   DWCHECK_OVERLAPS if some of these addresses are registered; or DWCHECK_NO_MEMORY. */
 uint32_t dwcheck_dl_register(uint64_t first, uint64_t last, const uint8_t *eh_frame, size_t length);
 
 /* Takes back what was registered with this first address. Later walks don't use the section; those under way may, so
@@ -119,8 +120,8 @@ uint32_t dwcheck_dl_register(uint64_t first, uint64_t last, const uint8_t *eh_fr
    registered so; or DWCHECK_NO_MEMORY. */
 uint32_t dwcheck_dl_unregister(uint64_t first);
 
-/* Does nothing (but see the beginning) and returns DWCHECK_DONE; `counts`, which may be NULL, becomes zeros. In versions
-   before this one walks needed it after dlopen and dlclose; a later major version won't have it. */
+/* Does nothing (but see the beginning) and returns DWCHECK_DONE; `counts`, which may be NULL, becomes zeros. In
+   versions before this one walks needed it after dlopen and dlclose; a later major version won't have it. */
 typedef struct dwcheck_dl_counts { uint32_t modules, added, removed, left_out; } dwcheck_dl_counts;
 uint32_t dwcheck_dl_update(dwcheck_dl_counts *counts);
 

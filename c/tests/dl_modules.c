@@ -11,6 +11,7 @@
 #include <link.h>
 #include <malloc.h>
 #include <pthread.h>
+#include <signal.h>
 #include <sys/mman.h>
 
 enum { THREADS = 8, FIRST = 100, ROUNDS = 1000 };
@@ -147,10 +148,30 @@ static void test_registered(void) {
 
 static atomic_int is_done;
 
-static void *walk_all_the_time(void *unused) {
-    dwcheck_dl_thread();
+/* A sanitizer takes some of a handler's stack, and may interrupt its own code, which has no rows. */
+#if defined __SANITIZE_ADDRESS__ || defined __SANITIZE_THREAD__
+enum { ALTERNATE = 1 << 17, IS_PLAIN = 0 };
+#else
+enum { ALTERNATE = 12 << 10, IS_PLAIN = 1 };
+#endif
+static uint8_t alternates[THREADS][ALTERNATE];
+
+static void on_signal(int signal, siginfo_t *info, void *context) {
+    (void)signal, (void)info;
+    void *addresses[FRAMES];
+    dwcheck_dl_request request = {.context = context};
+    IS(dwcheck_dl_walk(&request, addresses, FRAMES) > 0, 1);
+    if (IS_PLAIN) IS(request.stop, DWCHECK_STOP_RETURN_UNDEFINED);
+}
+
+/* Handlers come on a small stack meanwhile. */
+static void *walk_all_the_time(void *stack) {
+    stack_t alternate = {.ss_sp = stack, .ss_size = ALTERNATE};
+    sigaltstack(&alternate, NULL);
     while (!atomic_load(&is_done)) deep(DEPTH, compare);
-    return unused;
+    alternate.ss_flags = SS_DISABLE;
+    sigaltstack(&alternate, NULL);
+    return NULL;
 }
 
 static size_t used(void) { return mallinfo2().uordblks; }
@@ -159,9 +180,11 @@ static size_t used(void) { return mallinfo2().uordblks; }
 static void test_threads(const char *small, const char *large) {
     pthread_t threads[THREADS];
     size_t after_first = 0;
-    for (int i = 0; i < THREADS; i++) pthread_create(&threads[i], NULL, walk_all_the_time, NULL);
+    sigaction(SIGUSR1, &(struct sigaction){.sa_sigaction = on_signal, .sa_flags = SA_SIGINFO | SA_ONSTACK}, NULL);
+    for (int i = 0; i < THREADS; i++) pthread_create(&threads[i], NULL, walk_all_the_time, alternates[i]);
     for (int i = 0; i < ROUNDS; i++) {
         come_and_go(i % 2 ? small : large);
+        pthread_kill(threads[i % THREADS], SIGUSR1);
         if (i == FIRST) after_first = used();
     }
     IS(used() <= after_first + 4096, 1);
