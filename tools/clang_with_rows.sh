@@ -2,8 +2,10 @@
 # Takes clang's place in the kit, so that the code of the library gets unwind rows of its own.
 #   tools/clang_with_rows.sh CLANG WORD..   runs CLANG with these words
 # If they compile a module of LLVM (`-c -x ir MODULE -o OBJECT`), each of its functions first gets the attribute
-# `uwtable`. So the object has .eh_frame; its code is the same, byte for byte. Everything else goes to CLANG as it
-# is. If something fails, the last line of errors says what, also in the file that ROWS_LOG names, if any.
+# `uwtable`. So the object has .eh_frame. Its code is the same but for padding on x86-64: no jump crosses 32 bytes.
+# Many processors of Intel don't keep such a jump once it is decoded, so a walk would take a quarter longer or not by
+# where a linker puts it. Everything else goes to CLANG as it is. If something fails, the last line of errors says
+# what, also in the file that ROWS_LOG names, if any.
 set -u
 
 fail() { # WHAT
@@ -51,4 +53,6 @@ trap 'rm -rf "$folder"' EXIT
 words_for_text "$folder/module.ll" "$@"
 "$clang" "${words[@]}" || fail "the module can't be written as text by $clang"
 sed -i 's/^\(attributes #[0-9]* = {\)/\1 uwtable/' "$folder/module.ll" || fail "the text of the module can't be changed"
-"$clang" "${@:1:place-1}" "$folder/module.ll" "${@:place+1}" || fail "the module with rows can't be compiled by $clang"
+padding=()
+grep -q '^target triple = "x86_64' "$folder/module.ll" && padding=(-mbranches-within-32B-boundaries)
+"$clang" "${@:1:place-1}" "$folder/module.ll" "${@:place+1}" "${padding[@]}" || fail "the module with rows can't be compiled by $clang"

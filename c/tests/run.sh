@@ -89,10 +89,14 @@ compile_module() { # OBJECT COMMAND..: compiles the module of LLVM as the kit do
         objcopy -O binary --only-section='.text*' "$object" "$object.code"
 }
 
-rows_of_modules() { # whether tools/clang_with_rows.sh gives each function an FDE, and leaves the code as it is
+padding=()
+[ "$(uname -m)" != x86_64 ] || padding=(-mbranches-within-32B-boundaries)
+
+rows_of_modules() { # whether tools/clang_with_rows.sh gives each function an FDE, and only pads the code
     printf 'int f(int *); int g(int x) { int y[9] = {x}; return f(y) + y[3]; } int h(int x) { return g(x) + 1; }' |
         clang-16 -O1 -fno-asynchronous-unwind-tables -emit-llvm -c -x c - -o "$out/module.bc" &&
-        compile_module "$out/plain.o" clang-16 && compile_module "$out/rows.o" "$top/tools/clang_with_rows.sh" clang-16 &&
+        compile_module "$out/plain.o" clang-16 "${padding[@]}" &&
+        compile_module "$out/rows.o" "$top/tools/clang_with_rows.sh" clang-16 &&
         [ "$(readelf --debug-dump=frames "$out/plain.o" | grep -c ' FDE ')" = 0 ] &&
         [ "$(readelf --debug-dump=frames "$out/rows.o" | grep -c ' FDE ')" = 2 ] &&
         [ -s "$out/rows.o.code" ] && cmp "$out/plain.o.code" "$out/rows.o.code"
@@ -100,7 +104,8 @@ rows_of_modules() { # whether tools/clang_with_rows.sh gives each function an FD
 
 modules_without_attributes() {
     printf 'target triple = "x86_64-pc-linux-gnu"\ndefine i32 @f() {\n  ret i32 1\n}\n' > "$out/module.bc" &&
-        compile_module "$out/plain.o" clang-16 && compile_module "$out/rows.o" "$top/tools/clang_with_rows.sh" clang-16 &&
+        compile_module "$out/plain.o" clang-16 -mbranches-within-32B-boundaries &&
+        compile_module "$out/rows.o" "$top/tools/clang_with_rows.sh" clang-16 &&
         cmp "$out/plain.o.code" "$out/rows.o.code"
 }
 
