@@ -45,6 +45,11 @@ static uint64_t end_of(const dwcheck_block *block) { return block->base + block-
 
 static bool has(const dwcheck_block *block, uint64_t address) { return address - block->base < block->length; }
 
+bool dwcheck_unwind_has(const struct memory *memory, uint64_t address, uint64_t length) {
+    const dwcheck_block *block = &memory->blocks[0];
+    return (has(block, address) && block->length - (address - block->base) >= length) || dwcheck_unwind_can_read(address, length);
+}
+
 /* Where the thread's own stack ends if it is the one at this stack pointer: at the thread's control block, which glibc
    puts on top of the stack; or for the main thread where the loader found the stack. */
 static uint64_t own_end(uint64_t stack_pointer) {
@@ -78,7 +83,8 @@ static bool learn_own(uint64_t stack_pointer) {
 static dwcheck_block probe(uint64_t stack_pointer) {
     uint64_t page = (stack_pointer - RED_ZONE) / PAGE, i = 0;
     while (i < OVERFLOW_PAGES && !is_readable(page + i)) i++;
-    return block_of((page + i) * PAGE, (page + i + count_readable(page + i, FIRST_PAGES)) * PAGE);
+    if (i == OVERFLOW_PAGES) return block_of(stack_pointer, stack_pointer);
+    return block_of((page + i) * PAGE, (page + i + 1 + count_readable(page + i + 1, FIRST_PAGES - 1)) * PAGE);
 }
 
 void dwcheck_unwind_reach(struct memory *memory, uint64_t stack_pointer) {

@@ -8,6 +8,7 @@
 #include <signal.h>
 #include <stdatomic.h>
 #include <string.h>
+#include <sys/auxv.h>
 
 enum { CACHES = 64, SLOTS = 64, STACK = 96 * 1024, TRIES = 100, PROBES = 8, ID = 20 };
 
@@ -20,6 +21,7 @@ struct slot {
 struct cache {
     atomic_bool is_claimed;
     uint32_t generation;
+    uint64_t permanent; /* the slots of modules that stay loaded as long as this library */
     struct slot slots[SLOTS];
     dwcheck_rows rows;
     uint8_t stack[STACK] __attribute__((aligned(64)));
@@ -43,6 +45,7 @@ static struct cache *refreshed(struct cache *cache) {
     if (cache->generation == now) return cache;
     memset(&cache->rows, 0, sizeof cache->rows);
     memset(cache->slots, 0, sizeof cache->slots);
+    cache->permanent = 0;
     cache->generation = now;
     return cache;
 }
@@ -96,18 +99,37 @@ static bool is_same(const struct slot *slot, const struct dwcheck_dl_object *obj
            && module->object.map == object->map && module->prepared == dwcheck_dl_preparations() && memcmp(slot->id, module->id, ID) == 0;
 }
 
+static bool has(const struct dwcheck_dl_object *object, uint64_t address) { return address - object->first < object->end - object->first; }
+
+/* The program, this library, and the C library, which this one needs, aren't unloaded before this library is. */
+static bool is_permanent(const struct dwcheck_dl_object *object) {
+    return has(object, getauxval(AT_PHDR)) || has(object, (uint64_t)&caches) || has(object, (uint64_t)pthread_sigmask);
+}
+
+/* Makes a slot that of another module. */
+static void take_slot(struct cache *cache, int number, const struct dwcheck_dl_object *object) {
+    struct slot *slot = &cache->slots[number];
+    cache->permanent &= ~(UINT64_C(1) << number);
+    if (slot->module.object.end != 0) dwcheck_rows_forget(&cache->rows, (uint32_t)number);
+    dwcheck_dl_describe(object, &slot->module);
+    if (slot->module.id_length == ID) memcpy(slot->id, slot->module.id, ID);
+    if (slot->module.frame_length != 0 && is_permanent(object)) cache->permanent |= UINT64_C(1) << number;
+}
+
 int dwcheck_unwind_slot(struct cache *cache, uint64_t address) {
     struct dwcheck_dl_object object;
+    for (uint64_t left = cache->permanent; left != 0; left &= left - 1) {
+        const int number = __builtin_ctzll(left);
+        if (has(&cache->slots[number].module.object, address)) return number;
+    }
     if (!dwcheck_dl_find(address, &object)) return -1;
     const int number = slot_for(cache, &object);
     struct slot *slot = &cache->slots[number];
-    if (slot->module.object.end == 0 || !is_same(slot, &object)) {
-        if (slot->module.object.end != 0) dwcheck_rows_forget(&cache->rows, (uint32_t)number);
-        dwcheck_dl_describe(&object, &slot->module);
-        if (slot->module.id_length == ID) memcpy(slot->id, slot->module.id, ID);
-    }
+    if (slot->module.object.end == 0 || !is_same(slot, &object)) take_slot(cache, number, &object);
     return slot->module.frame_length == 0 ? -1 : number;
 }
+
+uint64_t dwcheck_unwind_permanent(const struct cache *cache) { return cache->permanent; }
 
 void dwcheck_unwind_on_stack(struct cache *cache, void (*function)(void *), void *data) {
     sigset_t all, before;

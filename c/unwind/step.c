@@ -22,8 +22,9 @@ int dwcheck_unwind_end(struct frame *frame) {
     return 0;
 }
 
-/* What a step with kept rows comes to, besides what unw_step returns: another way has to be taken. */
-enum { BY_CURSOR = 2, BY_GUESS = 3 };
+/* What a step with kept rows comes to, besides what unw_step returns: another way has to be taken. BY_ROW says that there is
+   a row. */
+enum { BY_CURSOR = 2, BY_ROW = 3, BY_GUESS = 4 };
 
 /* Takes a step with kept rows. */
 static int step_by_rows(struct cache *cache, struct frame *frame, const struct memory *memory, int slot) {
@@ -38,22 +39,29 @@ static int step_by_rows(struct cache *cache, struct frame *frame, const struct m
             return 1;
         }
         if (count == 1 && stop == DWCHECK_STOP_RETURN_UNDEFINED) return dwcheck_unwind_end(frame);
-        if (stop != DWCHECK_STOP_MISSING || filled) return BY_CURSOR;
+        if (stop != DWCHECK_STOP_MISSING || filled) return stop == DWCHECK_STOP_OTHER ? BY_ROW : BY_CURSOR;
         uint32_t status = frame->key == 0 ? DWCHECK_NONE : dwcheck_unwind_fill(cache, slot, frame->key - 1);
         if (status == DWCHECK_NONE) return BY_GUESS;
         if (status != DWCHECK_DONE && status != DWCHECK_NO_PLACE) return BY_CURSOR;
     }
 }
 
+/* Takes a step in the way that leads to a caller. */
+static int step(struct cache *cache, struct frame *frame, struct memory *memory, struct place *places) {
+    const int slot = dwcheck_unwind_slot(cache, frame->key - 1);
+    const bool is_kept = slot >= 0 && !places && (frame->known & KEPT_REGISTERS) == KEPT_REGISTERS;
+    int result = is_kept ? step_by_rows(cache, frame, memory, slot) : BY_CURSOR;
+    const bool has_row = result == BY_ROW, is_by_cursor = has_row || result == BY_CURSOR;
+    if (is_by_cursor && dwcheck_unwind_leave_handler(frame, memory, places, has_row)) return 1;
+    if (is_by_cursor) result = dwcheck_unwind_by_cursor(cache, frame, memory, frame->key, places);
+    return result == BY_GUESS || result == -UNW_ENOINFO ? dwcheck_unwind_guess(frame, places) : result;
+}
+
 int dwcheck_unwind_step(struct cache *cache, struct frame *frame, struct memory *memory, struct place *places) {
     if (frame->is_last) return 0;
-    uint64_t before = frame->values[RIP], stack_pointer = frame->values[RSP];
+    const uint64_t before = frame->values[RIP], stack_pointer = frame->values[RSP];
     dwcheck_unwind_reach(memory, stack_pointer);
-    int slot = dwcheck_unwind_slot(cache, frame->key - 1), result = slot < 0 ? BY_CURSOR : 0;
-    if (places || (frame->known & KEPT_REGISTERS) != KEPT_REGISTERS) result = BY_CURSOR;
-    if (result == 0) result = step_by_rows(cache, frame, memory, slot);
-    if (result == BY_CURSOR) result = dwcheck_unwind_by_cursor(cache, frame, memory, frame->key, places);
-    if (result == BY_GUESS || result == -UNW_ENOINFO) result = dwcheck_unwind_guess(frame, places);
+    const int result = step(cache, frame, memory, places);
     if (result > 0 && frame->key == 0) return dwcheck_unwind_end(frame); /* no interrupted null call, but where some threads begin */
     if (result > 0 && frame->values[RIP] == before && frame->values[RSP] == stack_pointer) return -UNW_EBADFRAME;
     return result;
@@ -80,7 +88,7 @@ struct addresses {
 
 static void begin(struct addresses *walk, const dwcheck_register_place *from) {
     for (int i = 0; i < BLOCKS; i++) walk->memory.blocks[i] = (dwcheck_block){0};
-    walk->confirmed = 0;
+    walk->confirmed = dwcheck_unwind_permanent(walk->cache);
     walk->behind = walk->idle = 0;
     walk->frame.known = KEPT_REGISTERS;
     walk->frame.is_last = 0;
@@ -112,12 +120,24 @@ static bool catch_up(struct addresses *walk) {
     return result > 0;
 }
 
+/* From the code to which a handler returns the walk goes on without the registers of the frames before. */
+static bool leave_handler(struct addresses *walk) {
+    struct frame frame = {.known = 0};
+    frame.values[RIP] = frame.key = walk->place.address, frame.values[RSP] = walk->place.stack_pointer;
+    if (walk->place.key != walk->place.address || !dwcheck_unwind_leave_handler(&frame, &walk->memory, NULL, true)) return false;
+    walk->frame = frame;
+    walk->behind = 0;
+    return true;
+}
+
 /* Writes the frame where the walk is, takes a step with all registers, and goes on from there. */
-static bool step_over(struct addresses *walk, bool is_written, void **address) {
-    if (is_written) walk->behind--;
-    if (!catch_up(walk)) return false;
-    *address = (void *)walk->frame.values[RIP];
-    if (dwcheck_unwind_step(walk->cache, &walk->frame, &walk->memory, NULL) <= 0) return false;
+static bool step_over(struct addresses *walk, uint32_t stop, void **address) {
+    const bool is_written = stop != DWCHECK_STOP_MISSING && stop != DWCHECK_STOP_OTHER;
+    *address = is_written ? *address : (void *)walk->place.address;
+    if (stop != DWCHECK_STOP_OTHER || !leave_handler(walk)) {
+        if (is_written) walk->behind--;
+        if (!catch_up(walk) || dwcheck_unwind_step(walk->cache, &walk->frame, &walk->memory, NULL) <= 0) return false;
+    }
     walk->place = (dwcheck_place){walk->frame.values[RIP], walk->frame.key, walk->frame.values[RSP], walk->frame.values[RBP], 0, 0};
     dwcheck_unwind_reach(&walk->memory, walk->place.stack_pointer);
     return true;
@@ -140,7 +160,7 @@ static bool go_on(struct addresses *walk, void **addresses, int size, int *count
     if (stop == DWCHECK_STOP_MISSING && provide(walk)) return true;
     bool is_written = stop != DWCHECK_STOP_MISSING && stop != DWCHECK_STOP_OTHER;
     if (!is_written && *count == size) return false;
-    bool goes_on = step_over(walk, is_written, &addresses[is_written ? *count - 1 : *count]);
+    bool goes_on = step_over(walk, stop, &addresses[is_written ? *count - 1 : *count]);
     if (!is_written) ++*count;
     walk->idle = 0;
     return goes_on;

@@ -26,6 +26,8 @@ enum { BLOCKS = 3 };
 HIDDEN void dwcheck_unwind_reach(struct memory *memory, uint64_t stack_pointer);
 /* Adds memory above what there is, or at the word below `cfa` if that isn't 0. Returns whether there is more. */
 HIDDEN bool dwcheck_unwind_extend(struct memory *memory, uint64_t stack_pointer, uint64_t cfa);
+/* Whether the first block has these bytes, or if not, the kernel says that they can be read; at most a page. */
+HIDDEN bool dwcheck_unwind_has(const struct memory *memory, uint64_t address, uint64_t length);
 /* Whether these bytes, at most a page, can be read. */
 HIDDEN bool dwcheck_unwind_can_read(uint64_t address, uint64_t length);
 /* Reads a word, or returns false. */
@@ -45,6 +47,8 @@ HIDDEN void dwcheck_unwind_give_back(struct cache *cache);
 HIDDEN dwcheck_rows *dwcheck_unwind_rows(struct cache *cache);
 /* The slot of the module that has an address, which is loaded; or -1. */
 HIDDEN int dwcheck_unwind_slot(struct cache *cache, uint64_t address);
+/* The slots of modules that can't be unloaded, so that walks needn't confirm them. */
+HIDDEN uint64_t dwcheck_unwind_permanent(const struct cache *cache);
 /* Keeps the row of an address of a slot's module. Returns what dwcheck_rows_fill returns. */
 HIDDEN uint32_t dwcheck_unwind_fill(struct cache *cache, int slot, uint64_t address);
 /* Calls a function that needs much stack, on the cache's own. Signals wait meanwhile. */
@@ -83,10 +87,13 @@ HIDDEN int dwcheck_unwind_step_by(struct cache *cache, struct frame *frame, stru
 /* Writes the addresses of the frames from a place on, and returns their number. */
 HIDDEN int dwcheck_unwind_addresses(void **addresses, int size, const dwcheck_register_place *from);
 
-/* ---- by_cursor.c: steps of a cursor of dwcheck.h, and guess.c: frames without a row ---- */
+/* ---- by_cursor.c: steps of a cursor of dwcheck.h; guess.c: frames without a row; handler.c: signals ---- */
 
 HIDDEN int dwcheck_unwind_by_cursor(struct cache *cache, struct frame *frame, struct memory *memory, uint64_t key, struct place *places);
 HIDDEN int dwcheck_unwind_guess(struct frame *frame, struct place *places);
+/* Leaves a signal handler: from the code to which it returns to what the signal has interrupted, by what the kernel has
+   saved. Returns false if the frame's code is another. `has_row` says that a row covers it, so it can be read. */
+HIDDEN bool dwcheck_unwind_leave_handler(struct frame *frame, struct memory *memory, struct place *places, bool has_row);
 /* Ends a walk: the frame stays, and its address becomes 0. */
 HIDDEN int dwcheck_unwind_end(struct frame *frame);
 
