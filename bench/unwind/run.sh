@@ -13,7 +13,9 @@ mkdir -p "$work"
 status=0
 
 times() {
-    cc -std=gnu11 -Wall -Wextra -O2 -g "-I$top/c/include" "$here/times.c" "$folder/libunwind.so.8" "-Wl,-rpath,$folder" -ldl -o "$work/times" &&
+    cc -O2 -g -shared -fPIC "$top/bench/beside_libunwind/through.c" -o "$work/libthrough.so" &&
+        cc -std=gnu11 -Wall -Wextra -O2 -g "-I$top/c/include" "$here/times.c" "$work/libthrough.so" "$folder/libunwind.so.8" \
+            "-Wl,-rpath,$folder:$work" -ldl -o "$work/times" &&
         "$work/times" "$(/sbin/ldconfig -p | sed -n 's/.*libunwind\.so\.8 .*=> //p' | head -n 1)"
 }
 

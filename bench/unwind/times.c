@@ -118,8 +118,14 @@ SHAPE(one, 8, (void)0)
 SHAPE(two, 200, (void)0)
 SHAPE(three, 72, SAVES)
 SHAPE(four, 88, (void)0)
-static const function functions[] = {plain, saves, grows, wider, saves_more, one, grows_more, two, three, four};
-enum { KINDS = sizeof functions / sizeof *functions };
+
+/* Through a shared library, which calls back. */
+int through(int levels, int (*down)(int));
+static int goes_on(int depth) { return (int)next(depth); }
+static unsigned long through_library(int depth) { return (unsigned long)through(depth + 1, goes_on) + 1; }
+
+static const function functions[] = {plain, saves, grows, wider, saves_more, one, grows_more, two, three, four, through_library};
+enum { KINDS = sizeof functions / sizeof *functions - 1, LIBRARY = KINDS };
 
 static int round_of;
 
@@ -155,13 +161,19 @@ static void show(const char *what) {
     }
 }
 
-/* Walks a stack of this depth many times: always the same one, or one whose functions are drawn anew. */
-static void try_stack(const char *what, int depth, int is_new, void (*last)(void)) {
+/* Stacks: always the same one; one whose functions are drawn anew each time; the same one, through a library at each third call. */
+enum order { SAME, DRAWN, THROUGH };
+static unsigned char kind_of(enum order order, int i) {
+    if (order == THROUGH && i % 3 == 0) return LIBRARY;
+    return (unsigned char)((order == DRAWN ? rand() : i) % KINDS);
+}
+
+/* Walks a stack of this depth many times. */
+static void try_stack(const char *what, int depth, enum order order, void (*last)(void)) {
     for (int i = 0; i < WALKERS; i++) best[i] = 1e30;
     bottom = last;
     for (round_of = 0; round_of < ROUNDS; round_of++) {
-        for (int i = 0; i <= depth; i++)
-            if (is_new || round_of == 0) kinds[i] = (unsigned char)(is_new ? rand() % KINDS : i % KINDS);
+        for (int i = 0; i <= depth && (order == DRAWN || round_of == 0); i++) kinds[i] = kind_of(order, i);
         next(depth);
     }
     show(what);
@@ -177,11 +189,12 @@ int main(int argc, char **argv) {
     theirs = calls_of(library);
     sigaltstack(&elsewhere, NULL);
     sigaction(SIGUSR1, &action, NULL);
-    try_stack("the same stack again, 600 deep", DEPTH, 0, time_all);
-    try_stack("the same stack again, 25 deep", 20, 0, time_all);
-    try_stack("the same stack again, 8 deep", 3, 0, time_all);
-    try_stack("another stack each time, 600 deep", DEPTH, 1, time_all);
-    try_stack("another stack each time, 25 deep", 20, 1, time_all);
-    try_stack("from a handler on another stack, 25 deep", 20, 0, raise_elsewhere);
+    try_stack("the same stack again, 600 deep", DEPTH, SAME, time_all);
+    try_stack("the same stack again, 25 deep", 20, SAME, time_all);
+    try_stack("the same stack again, 8 deep", 3, SAME, time_all);
+    try_stack("the same stack again, through a library", 16, THROUGH, time_all);
+    try_stack("another stack each time, 600 deep", DEPTH, DRAWN, time_all);
+    try_stack("another stack each time, 25 deep", 20, DRAWN, time_all);
+    try_stack("from a handler on another stack, 25 deep", 20, SAME, raise_elsewhere);
     return status;
 }

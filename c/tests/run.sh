@@ -292,7 +292,9 @@ unwind_names() {
             grep -vx 'backtrace\|_Unwind_.*\|_ReadULEB\|_ReadSLEB\|__libunwind_Unwind_GetBSP'
         cc -E -P -I"$top/c/include" -include dwcheck-unwind.h -x c /dev/null | grep -o '\b_Ux86_64_[a-z_0-9]*\|\b_ULx86_64_[a-z_0-9]*\|\b_U_dyn_[a-z_]*(' | tr -d '('
     } | sort -u > "$out/wanted"
-    [ -z "$(comm -13 "$out/ours" "$out/wanted" | tee /dev/stderr)" ] && [ "$(wc -l < "$out/wanted")" -gt 60 ]
+    comm -13 "$out/ours" "$out/wanted" > "$out/absent"
+    cat "$out/absent"
+    [ ! -s "$out/absent" ] && [ "$(wc -l < "$out/wanted")" -gt 60 ]
 }
 
 build_unwind() { # FLAG..: builds the tests of libunwind's calls. Its PLT has no rows, so that these are guessed

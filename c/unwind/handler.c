@@ -1,14 +1,11 @@
 /* Frames of signals. The C library's row for the code to which handlers return says by an expression for each register where
    the kernel has saved it. To evaluate these takes longer than many frames, so this code is known by its bytes, and the
    registers are taken from the kernel's context, to which the stack pointer leads. */
+#include "../dl/walk.h"
 #include "unwind.h"
 
-#include <string.h>
-
-/* mov $15, %rax; syscall: rt_sigreturn. */
 static bool is_return_of_handler(uint64_t address, bool has_row) {
-    static const uint8_t code[] = {0x48, 0xc7, 0xc0, 15, 0, 0, 0, 0x0f, 0x05};
-    return (has_row || dwcheck_unwind_can_read(address, sizeof code)) && memcmp((const void *)address, code, sizeof code) == 0;
+    return (has_row || dwcheck_unwind_can_read(address, 1)) && dwcheck_dl_is_return_of_signal(address);
 }
 
 bool dwcheck_unwind_leave_handler(struct frame *frame, struct memory *memory, struct place *places, bool has_row) {
