@@ -6,8 +6,9 @@
    tested and not proved.
 
    A call that fails returns the negative of a number below. Any thread may make the calls, also in a signal handler, but
-   for _U_dyn_register and _U_dyn_cancel. They neither allocate nor lock. A handler that leaves a call by siglongjmp, or a
-   fork beside a call in another thread, takes one of 64 caches away; without a free one a call returns -UNW_ENOMEM.
+   for _U_dyn_register and _U_dyn_cancel. They neither allocate nor lock, and take up to 4 KB of stack. A handler that
+   leaves a call by siglongjmp, or a fork beside a call in another thread, takes one of 64 caches away; without a free one
+   a call returns -UNW_ENOMEM.
 
    How the calls differ from libunwind's:
    - Another process can't be walked: unw_create_addr_space returns NULL, unw_init_remote takes the local address space
