@@ -7,8 +7,7 @@
 
    A call that fails returns the negative of a number below. Any thread may make the calls, also in a signal handler, but
    for _U_dyn_register and _U_dyn_cancel. They neither allocate nor lock, and take up to 4 KB of stack. A handler that
-   leaves a call by siglongjmp, or a fork beside a call in another thread, takes one of 64 caches away; without a free one
-   a call returns -UNW_ENOMEM.
+   leaves a call by siglongjmp takes one of 64 caches away; without a free one a call returns -UNW_ENOMEM.
 
    How the calls differ from libunwind's:
    - Another process can't be walked: unw_create_addr_space returns NULL, unw_init_remote takes the local address space
@@ -18,7 +17,9 @@
    - Rows are kept with each caching policy, since the module of each is confirmed before use; a cache has one size.
    - unw_resume leaves the floating-point environment as it is, and a DW_CFA_GNU_args_size counts as nothing.
    - Names aren't looked for in compressed debug information (.gnu_debugdata).
-   - unw_set_iterate_phdr_function does nothing: modules are those that the loader knows. */
+   - unw_set_iterate_phdr_function does nothing: modules are those that the loader knows.
+   - _ReadULEB, _ReadSLEB and __libunwind_Unwind_GetBSP, which are helpers of libunwind's, aren't there, and the calls for
+     exceptions and backtrace are those of libgcc_s and the C library. */
 #ifndef DWCHECK_UNWIND_H
 #define DWCHECK_UNWIND_H
 

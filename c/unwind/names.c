@@ -99,7 +99,7 @@ int dwcheck_unwind_name(uint64_t address, char *name, size_t size, unw_word_t *o
     const unw_dyn_info_t *registered = dwcheck_unwind_registered(address);
     name[0] = '\0';
     if (registered) return registered_name(registered, address, name, size, offset);
-    if (!dwcheck_dl_find(address, &object) || !object.map) return -UNW_ENOINFO;
+    if (!dwcheck_dl_find(address, &object) || !object.map) return -UNW_EUNSPEC; /* so does libunwind */
     struct bytes file = map_file(path_of(object.map)), image = {(const uint8_t *)object.first, object.end - object.first};
     struct nearest nearest = nearest_in(file.first ? file : image, address - object.map->l_addr);
     int result = nearest.name ? put_name(nearest.name, nearest.room, name, size) : -UNW_ENOINFO;
@@ -123,7 +123,7 @@ static uint64_t place_in_file(const struct dwcheck_dl_object *object, uint64_t a
 int dwcheck_unwind_file(uint64_t address, char *name, size_t size, unw_word_t *offset) {
     struct dwcheck_dl_object object;
     name[0] = '\0';
-    if (!dwcheck_dl_find(address, &object) || !object.map) return -UNW_ENOINFO;
+    if (!dwcheck_dl_find(address, &object) || !object.map) return -UNW_EUNSPEC; /* so does libunwind */
     const char *path = path_of(object.map);
     int result = put_name(path, LONGEST, name, size);
     if (strcmp(path, DWCHECK_DL_PROGRAM) == 0) {

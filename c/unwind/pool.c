@@ -4,6 +4,7 @@
 #include "../dl/prepared.h"
 #include "unwind.h"
 
+#include <pthread.h>
 #include <sched.h>
 #include <signal.h>
 #include <stdatomic.h>
@@ -21,6 +22,7 @@ struct slot {
 struct cache {
     atomic_bool is_claimed;
     uint32_t generation;
+    const void *owner; /* the thread that has claimed it */
     uint64_t permanent; /* the slots of modules that stay loaded as long as this library */
     struct slot slots[SLOTS];
     dwcheck_rows rows;
@@ -62,6 +64,7 @@ struct cache *dwcheck_unwind_claim(void) {
         unsigned number = (first + i) % CACHES;
         if (try_to_claim(&caches[number])) {
             last = 1 + number;
+            caches[number].owner = __builtin_thread_pointer();
             return refreshed(&caches[number]);
         }
         if (number == first && i > 0) sched_yield();
@@ -72,6 +75,17 @@ struct cache *dwcheck_unwind_claim(void) {
 void dwcheck_unwind_give_back(struct cache *cache) {
     atomic_store_explicit(&cache->is_claimed, false, memory_order_release);
 }
+
+/* The child of a fork has one thread, so it takes back the caches that others had. Their rows may be half written. */
+static void in_child(void) {
+    for (int i = 0; i < CACHES; i++) {
+        if (!atomic_load(&caches[i].is_claimed) || caches[i].owner == __builtin_thread_pointer()) continue;
+        caches[i].generation = atomic_load(&generation) - 1;
+        atomic_store(&caches[i].is_claimed, false);
+    }
+}
+
+__attribute__((constructor)) static void begin(void) { pthread_atfork(NULL, NULL, in_child); }
 
 dwcheck_rows *dwcheck_unwind_rows(struct cache *cache) { return &cache->rows; }
 

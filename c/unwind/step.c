@@ -18,7 +18,7 @@ static void go_to(struct frame *frame, const dwcheck_register_place *place) {
 
 int dwcheck_unwind_end(struct frame *frame) {
     frame->is_last = 1;
-    frame->values[RIP] = 0;
+    frame->values[RIP] = frame->key = 0;
     return 0;
 }
 
