@@ -14,6 +14,7 @@
 #include <stdio.h>
 #include <stdlib.h>
 #include <string.h>
+#include <sys/mman.h>
 
 enum { ROOM = 200, NAME = 200 };
 static int wrong, frames, walks;
@@ -32,6 +33,8 @@ static struct {
     int (*is_signal_frame)(unw_cursor_t *);
     int (*get_proc_info)(unw_cursor_t *, unw_proc_info_t *);
     int (*get_proc_name)(unw_cursor_t *, char *, size_t, unw_word_t *);
+    void (*dyn_register)(unw_dyn_info_t *);
+    void (*dyn_cancel)(unw_dyn_info_t *);
     const char *(*strerror)(int);
     const char *(*regname)(unw_regnum_t);
 } theirs;
@@ -52,6 +55,8 @@ static void load(const char *path) {
     *(void **)&theirs.is_signal_frame = call_of(library, "_ULx86_64_is_signal_frame");
     *(void **)&theirs.get_proc_info = call_of(library, "_ULx86_64_get_proc_info");
     *(void **)&theirs.get_proc_name = call_of(library, "_ULx86_64_get_proc_name");
+    *(void **)&theirs.dyn_register = call_of(library, "_U_dyn_register");
+    *(void **)&theirs.dyn_cancel = call_of(library, "_U_dyn_cancel");
     *(void **)&theirs.strerror = call_of(library, "_Ux86_64_strerror");
     *(void **)&theirs.regname = call_of(library, "_Ux86_64_regname");
     IS((void *)theirs.step != (void *)unw_step, 1);
@@ -82,7 +87,8 @@ static void compare_functions(unw_cursor_t *our, unw_cursor_t *their) {
     IS(info.end_ip, their_info.end_ip);
     IS(info.lsda, their_info.lsda);
     IS(info.handler, their_info.handler);
-    IS(unw_get_proc_name(our, name, NAME, &offset), theirs.get_proc_name(their, their_name, NAME, &their_offset));
+    const int result = theirs.get_proc_name(their, their_name, NAME, &their_offset);
+    IS(unw_get_proc_name(our, name, NAME, &offset), result == -UNW_EINVAL ? -UNW_ENOINFO : result); /* EINVAL for registered tables */
     IS(strcmp(name, their_name), 0);
     if (*name) IS(offset, their_offset);
 }
@@ -366,6 +372,48 @@ static void guesses_are_those_of_libunwind_and_marked(void) {
     in_plt();
 }
 
+/* ---- functions that the program has made ---- */
+
+/* A page with a function, the CIE and the FDE that say how it is unwound, and a search table with one entry. */
+static struct made {
+    uint8_t code[64], cie[24], fde[40];
+    int32_t table[4];
+} *made;
+enum { PAGE = 4096 };
+
+static void make_function(void) {
+    static const uint8_t code[] = {0x48, 0x83, 0xec, 0x18, 0xff, 0xd7, 0x48, 0x83, 0xc4, 0x18, 0xc3}; /* sub $24, %rsp; call *%rdi; add; ret */
+    static const uint8_t cie[] = {20, 0, 0, 0, 0, 0, 0, 0, 1, 'z', 'R', 0, 1, 0x78, 16, 1, 0x1b, 12, 7, 8, 0x80 | 16, 1, 0, 0};
+    static const uint8_t program[] = {0, 0x40 | 4, 14, 32, 0x40 | 6, 14, 8}; /* no augmentation data; the CFA is rsp + 32 after 4 bytes */
+    made = mmap(NULL, PAGE, PROT_READ | PROT_WRITE | PROT_EXEC, MAP_PRIVATE | MAP_ANONYMOUS, -1, 0);
+    memcpy(made->code, code, sizeof code);
+    memcpy(made->cie, cie, sizeof cie);
+    const int32_t words[] = {sizeof made->fde - 4, (int32_t)(made->fde + 4 - made->cie), (int32_t)(made->code - (made->fde + 8)), sizeof code};
+    memcpy(made->fde, words, sizeof words);
+    memcpy(made->fde + sizeof words, program, sizeof program);
+    made->table[1] = (int32_t)(made->fde - made->code);
+}
+
+static void walk_through_made(void) {
+    unw_context_t context;
+    unw_getcontext(&context);
+    IS(compare_from(&context, 0) > 4, 1);
+    IS(guess_after(2, ""), UNW_GUESS_NONE);
+}
+
+static void registered_functions_are_walked_through(void) {
+    unw_dyn_info_t ours = {.format = UNW_INFO_FORMAT_REMOTE_TABLE}, its;
+    make_function();
+    ours.start_ip = (unw_word_t)made->code, ours.end_ip = ours.start_ip + 11;
+    ours.u.rti.segbase = ours.start_ip, ours.u.rti.table_data = (unw_word_t)made->table, ours.u.rti.table_len = 1;
+    its = ours;
+    _U_dyn_register(&ours), theirs.dyn_register(&its);
+    void (*function)(void (*)(void));
+    *(void **)&function = made->code;
+    function(walk_through_made);
+    _U_dyn_cancel(&ours), theirs.dyn_cancel(&its);
+}
+
 /* ---- what a program writes is where libunwind says that it is ---- */
 
 static unsigned long written;
@@ -507,6 +555,7 @@ int main(int argc, char **argv) {
     if (pthread_create(&thread, NULL, in_a_thread, NULL) || pthread_join(thread, NULL)) abort();
     contexts_of_other_threads_are_walked();
     guesses_are_those_of_libunwind_and_marked();
+    registered_functions_are_walked_through();
     registers_are_written_to_their_places();
     a_step_by_a_passed_row_is_a_step();
     cursors_of_any_bytes_are_refused();
