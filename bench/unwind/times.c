@@ -161,7 +161,8 @@ static void show(const char *what) {
     }
 }
 
-/* Stacks: always the same one; one whose functions are drawn anew each time; the same one, through a library at each third call. */
+/* Stacks: always the same one; one whose functions are drawn anew each time; the same one, with each third call through a
+   library. */
 enum order { SAME, DRAWN, THROUGH };
 static unsigned char kind_of(enum order order, int i) {
     if (order == THROUGH && i % 3 == 0) return LIBRARY;
@@ -185,7 +186,8 @@ int main(int argc, char **argv) {
     const struct sigaction action = {.sa_handler = in_handler, .sa_flags = SA_ONSTACK};
     void *library = argc > 1 ? dlopen(argv[1], RTLD_NOW | RTLD_LOCAL | RTLD_DEEPBIND) : NULL;
     if (!library) return 2;
-    ours = (struct calls){unw_getcontext, unw_init_local, unw_step, unw_get_reg, unw_backtrace, unw_set_caching_policy, unw_local_addr_space};
+    ours = (struct calls){unw_getcontext, unw_init_local, unw_step, unw_get_reg, unw_backtrace, unw_set_caching_policy,
+                          unw_local_addr_space};
     theirs = calls_of(library);
     sigaltstack(&elsewhere, NULL);
     sigaction(SIGUSR1, &action, NULL);

@@ -237,13 +237,15 @@ int unw_get_save_loc(unw_cursor_t *cursor, int number, unw_save_loc_t *location)
 int unw_is_signal_frame(unw_cursor_t *cursor);
 int unw_get_proc_info(unw_cursor_t *cursor, unw_proc_info_t *info);
 int unw_get_proc_info_by_ip(unw_addr_space_t space, unw_word_t address, unw_proc_info_t *info, void *context);
-int unw_get_proc_info_in_range(unw_word_t start, unw_word_t end, unw_word_t table, unw_word_t table_length, unw_word_t frame_header,
-                               unw_word_t frame_header_length, unw_addr_space_t space, unw_word_t address, unw_proc_info_t *info,
-                               int need_unwind_info, void *context);
+int unw_get_proc_info_in_range(unw_word_t start, unw_word_t end, unw_word_t table, unw_word_t table_length,
+                               unw_word_t frame_header, unw_word_t frame_header_length, unw_addr_space_t space,
+                               unw_word_t address, unw_proc_info_t *info, int need_unwind_info, void *context);
 int unw_get_proc_name(unw_cursor_t *cursor, char *name, size_t size, unw_word_t *offset);
-int unw_get_proc_name_by_ip(unw_addr_space_t space, unw_word_t address, char *name, size_t size, unw_word_t *offset, void *context);
+int unw_get_proc_name_by_ip(unw_addr_space_t space, unw_word_t address, char *name, size_t size, unw_word_t *offset,
+                            void *context);
 int unw_get_elf_filename(unw_cursor_t *cursor, char *name, size_t size, unw_word_t *offset);
-int unw_get_elf_filename_by_ip(unw_addr_space_t space, unw_word_t address, char *name, size_t size, unw_word_t *offset, void *context);
+int unw_get_elf_filename_by_ip(unw_addr_space_t space, unw_word_t address, char *name, size_t size, unw_word_t *offset,
+                               void *context);
 int unw_reg_states_iterate(unw_cursor_t *cursor, unw_reg_states_callback callback, void *token);
 int unw_apply_reg_state(unw_cursor_t *cursor, void *state);
 

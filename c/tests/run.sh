@@ -5,6 +5,8 @@
 # wrapper.cc, as C++17, as C++20 and over the module; and those of cases.c while allocations fail in turn,
 # with sanitizers, and under valgrind. Before that, the headers are compiled as C11, C17 and C++17; passing
 # a pointer of a wrong type must be an error.
+# The tests of libunwind's calls take the libraries of build/unwind, or of the folder that UNWIND names, and run beside
+# Debian's libunwind8.
 # Prints a line `ok NAME` or `FAILED NAME` for each, and ends with status 1 if one failed.
 set -u
 top=$(dirname "$(dirname "$(dirname "$(realpath "$0")")")")
@@ -298,8 +300,13 @@ unwind_names() {
 }
 
 build_unwind() { # FLAG..: builds the tests of libunwind's calls. Its PLT has no rows, so that these are guessed
-    cc -std=gnu11 -D_GNU_SOURCE $strict -Wno-pedantic -O2 -g "$@" "$top/c/tests/unwind.c" "$unwind/libunwind.so.8" "-Wl,-rpath,$unwind" \
+    cc -std=gnu11 -D_GNU_SOURCE $strict -O2 -g "$@" "$top/c/tests/unwind.c" "$unwind/libunwind.so.8" "-Wl,-rpath,$unwind" \
         -Wl,--no-ld-generated-unwind-info -Wl,-z,lazy -fcf-protection=none -fplt -o "$out/unwind" -pthread -ldl
+}
+
+unwind_input() { # builds the tests of these calls with bad input, and runs them
+    cc -std=gnu11 -D_GNU_SOURCE $strict -O2 -g "$top/c/tests/unwind_input.c" "$unwind/libunwind.so.8" "-Wl,-rpath,$unwind" -o "$out/unwind_input" &&
+        "$out/unwind_input"
 }
 
 unwind() { # builds these tests and runs them beside libunwind
@@ -356,6 +363,7 @@ test_of "the header with libunwind's names as C++17" unwind_header c++ c++17 c++
 test_of "types of libunwind have the same layout" unwind_layouts
 test_of "the libraries with libunwind's names export all of them" unwind_names
 test_of "frames by libunwind's calls are those of libunwind" unwind
+test_of "libunwind's calls answer cursors and contexts of any bytes" unwind_input
 test_of "the header for C++ as C++17, beside that for C" wrapper c++17
 test_of "the header for C++ as C++20, whose frames are a range" wrapper c++20
 test_of "the header for C++ as a module of C++20" as_module

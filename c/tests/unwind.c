@@ -1,6 +1,6 @@
 /* Tests of libunwind's calls over the library, in a program that has both: at each frame of its stacks, registers, places
-   where they are saved, names and functions are those of libunwind. Cursors and contexts of random bytes get an answer.
-   Prints a line for each failure, and at the end a line with counts.
+   where they are saved, names and functions are those of libunwind. Prints a line for each failure, and at the end a line
+   with counts.
    usage: unwind LIBUNWIND     the path of libunwind's own libunwind.so.8 */
 #include "dwcheck-unwind.h"
 
@@ -59,7 +59,7 @@ static void load(const char *path) {
     *(void **)&theirs.dyn_cancel = call_of(library, "_U_dyn_cancel");
     *(void **)&theirs.strerror = call_of(library, "_Ux86_64_strerror");
     *(void **)&theirs.regname = call_of(library, "_Ux86_64_regname");
-    IS((void *)theirs.step != (void *)unw_step, 1);
+    IS(theirs.step != unw_step, 1);
 }
 
 static const int saved[] = {UNW_X86_64_RBX, UNW_X86_64_RBP, UNW_X86_64_RSP, UNW_X86_64_R12,
@@ -88,7 +88,8 @@ static void compare_functions(unw_cursor_t *our, unw_cursor_t *their) {
     IS(info.lsda, their_info.lsda);
     IS(info.handler, their_info.handler);
     const int result = theirs.get_proc_name(their, their_name, NAME, &their_offset);
-    IS(unw_get_proc_name(our, name, NAME, &offset), result == -UNW_EINVAL ? -UNW_ENOINFO : result); /* EINVAL for registered tables */
+    /* For a registered table libunwind takes another format than the one that it has. */
+    IS(unw_get_proc_name(our, name, NAME, &offset), result == -UNW_EINVAL ? -UNW_ENOINFO : result);
     IS(strcmp(name, their_name), 0);
     if (*name) IS(offset, their_offset);
 }
@@ -382,13 +383,15 @@ static struct made {
 enum { PAGE = 4096 };
 
 static void make_function(void) {
-    static const uint8_t code[] = {0x48, 0x83, 0xec, 0x18, 0xff, 0xd7, 0x48, 0x83, 0xc4, 0x18, 0xc3}; /* sub $24, %rsp; call *%rdi; add; ret */
+    /* sub $24, %rsp; call *%rdi; add $24, %rsp; ret. After 4 bytes the CFA is rsp + 32. */
+    static const uint8_t code[] = {0x48, 0x83, 0xec, 0x18, 0xff, 0xd7, 0x48, 0x83, 0xc4, 0x18, 0xc3};
     static const uint8_t cie[] = {20, 0, 0, 0, 0, 0, 0, 0, 1, 'z', 'R', 0, 1, 0x78, 16, 1, 0x1b, 12, 7, 8, 0x80 | 16, 1, 0, 0};
-    static const uint8_t program[] = {0, 0x40 | 4, 14, 32, 0x40 | 6, 14, 8}; /* no augmentation data; the CFA is rsp + 32 after 4 bytes */
+    static const uint8_t program[] = {0, 0x40 | 4, 14, 32, 0x40 | 6, 14, 8}; /* after no augmentation data */
     made = mmap(NULL, PAGE, PROT_READ | PROT_WRITE | PROT_EXEC, MAP_PRIVATE | MAP_ANONYMOUS, -1, 0);
     memcpy(made->code, code, sizeof code);
     memcpy(made->cie, cie, sizeof cie);
-    const int32_t words[] = {sizeof made->fde - 4, (int32_t)(made->fde + 4 - made->cie), (int32_t)(made->code - (made->fde + 8)), sizeof code};
+    const int32_t words[] = {sizeof made->fde - 4, (int32_t)(made->fde + 4 - made->cie),
+                             (int32_t)(made->code - (made->fde + 8)), sizeof code};
     memcpy(made->fde, words, sizeof words);
     memcpy(made->fde + sizeof words, program, sizeof program);
     made->table[1] = (int32_t)(made->fde - made->code);
@@ -466,75 +469,7 @@ static void a_step_by_a_passed_row_is_a_step(void) {
     IS(one, two);
 }
 
-/* ---- input that can't be right ---- */
-
-static unsigned long random_state = 20261130;
-static unsigned long any(void) { /* xorshift64* */
-    random_state ^= random_state >> 12, random_state ^= random_state << 25, random_state ^= random_state >> 27;
-    return random_state * 0x2545f4914f6cdd1d;
-}
-
-static void refuses(unw_cursor_t *cursor) {
-    unw_word_t value;
-    unw_save_loc_t place;
-    unw_proc_info_t info;
-    char name[8];
-    IS(unw_step(cursor), -UNW_EINVAL);
-    IS(unw_get_reg(cursor, UNW_REG_IP, &value), -UNW_EINVAL);
-    IS(unw_set_reg(cursor, UNW_REG_IP, 1), -UNW_EINVAL);
-    IS(unw_get_save_loc(cursor, UNW_REG_IP, &place), -UNW_EINVAL);
-    IS(unw_get_proc_info(cursor, &info), -UNW_EINVAL);
-    IS(unw_get_proc_name(cursor, name, sizeof name, NULL), -UNW_EINVAL);
-    IS(unw_is_signal_frame(cursor), -UNW_EINVAL);
-    IS(unw_resume(cursor), -UNW_EINVAL);
-    IS(unw_reg_states_iterate(cursor, see_row, NULL), -UNW_EINVAL);
-    IS(unw_apply_reg_state(cursor, name), -UNW_EINVAL);
-}
-
-static void cursors_of_any_bytes_are_refused(void) {
-    unw_cursor_t cursor;
-    unw_context_t context;
-    memset(&cursor, 0, sizeof cursor);
-    refuses(&cursor);
-    refuses(NULL);
-    for (int i = 0; i < 1000; i++) {
-        for (int j = 0; j < UNW_TDEP_CURSOR_LEN; j++) cursor.opaque[j] = any();
-        refuses(&cursor);
-    }
-    IS(unw_init_local(&cursor, NULL), -UNW_EINVAL);
-    IS(unw_init_local(NULL, &context), -UNW_EINVAL);
-    IS(unw_init_local2(&cursor, &context, 2), -UNW_EINVAL);
-    IS(unw_init_remote(&cursor, NULL, &context), -UNW_EINVAL);
-    IS((long)unw_create_addr_space(NULL, 0), 0);
-    IS(unw_backtrace(NULL, 0), 0);
-}
-
-/* A number that a register may have: of the stack, of code, near the ends of the addresses, or any. */
-static unsigned long any_content(void) {
-    const unsigned long near = any() % 4096;
-    switch (any() % 6) {
-    case 0: return (unsigned long)&near + near - 2048;
-    case 1: return (unsigned long)compare + near;
-    case 2: return (unsigned long)qsort + near;
-    case 3: return near - 2048;
-    case 4: return any() >> (any() % 64);
-    default: return any();
-    }
-}
-
-static void contexts_of_any_registers_get_an_answer(void) {
-    for (int i = 0; i < 20000; i++) {
-        unw_context_t context;
-        unw_cursor_t cursor;
-        void *addresses[20];
-        unw_getcontext(&context);
-        for (int j = 0; j <= REG_RIP; j++)
-            if (any() % 2) context.uc_mcontext.gregs[j] = (greg_t)any_content();
-        IS(unw_init_local2(&cursor, &context, (int)(any() % 2)), 0);
-        for (int j = 0; j < 20 && unw_step(&cursor) > 0; j++) continue;
-        unw_backtrace2(addresses, 20, &context, (int)(any() % 2));
-    }
-}
+/* ---- texts ---- */
 
 static void texts_are_those_of_libunwind(void) {
     for (int i = -15; i < 3; i++) IS(strcmp(unw_strerror(i), theirs.strerror(i)), 0);
@@ -558,8 +493,6 @@ int main(int argc, char **argv) {
     registered_functions_are_walked_through();
     registers_are_written_to_their_places();
     a_step_by_a_passed_row_is_a_step();
-    cursors_of_any_bytes_are_refused();
-    contexts_of_any_registers_get_an_answer();
     texts_are_those_of_libunwind();
     printf("%d walks, %d frames: %d wrong\n", walks, frames, wrong);
     return wrong != 0;

@@ -9,20 +9,20 @@ int _ULx86_64_dwarf_find_unwind_table(void *, unw_addr_space_t, char *, unw_word
 int _Ux86_64_get_elf_image(void *, pid_t, unw_word_t, unsigned long *, unsigned long *, char *, size_t);
 void _Ux86_64_get_exe_image_path(char *);
 
-int _ULx86_64_dwarf_search_unwind_table(unw_addr_space_t space, unw_word_t address, unw_dyn_info_t *table, unw_proc_info_t *info,
-                                        int need_unwind_info, void *context) {
+int _ULx86_64_dwarf_search_unwind_table(unw_addr_space_t space, unw_word_t address, unw_dyn_info_t *table,
+                                        unw_proc_info_t *info, int need_unwind_info, void *context) {
     (void)space, (void)address, (void)table, (void)info, (void)need_unwind_info, (void)context;
     return -UNW_ENOINFO;
 }
 
-int _ULx86_64_dwarf_find_unwind_table(void *image, unw_addr_space_t space, char *path, unw_word_t segment, unw_word_t place,
-                                      unw_word_t address) {
+int _ULx86_64_dwarf_find_unwind_table(void *image, unw_addr_space_t space, char *path, unw_word_t segment,
+                                      unw_word_t place, unw_word_t address) {
     (void)image, (void)space, (void)path, (void)segment, (void)place, (void)address;
     return -UNW_ENOINFO;
 }
 
-int _Ux86_64_get_elf_image(void *image, pid_t process, unw_word_t address, unsigned long *segment, unsigned long *place, char *path,
-                           size_t size) {
+int _Ux86_64_get_elf_image(void *image, pid_t process, unw_word_t address, unsigned long *segment, unsigned long *place,
+                           char *path, size_t size) {
     (void)image, (void)process, (void)address, (void)segment, (void)place, (void)path, (void)size;
     return -UNW_ENOINFO;
 }

@@ -22,7 +22,8 @@ static const uint16_t callee_saved[] = {RBX, RBP, R12, R13, R14, R15};
 static dwcheck_state state_of(const struct step *step, const uint8_t known[3]) {
     return (dwcheck_state){.contents = step->frame->values, .contents_length = REGISTERS, .known = known, .known_length = 3,
                            .blocks = step->memory->blocks, .blocks_length = BLOCKS, .kept = callee_saved,
-                           .kept_length = sizeof callee_saved / sizeof *callee_saved, .stack_pointer = RSP, .has_stack_pointer = 1};
+                           .kept_length = sizeof callee_saved / sizeof *callee_saved, .stack_pointer = RSP,
+                           .has_stack_pointer = 1};
 }
 
 /* The address that a rule's expression gives, in the row's section; or false if it has none here. */
@@ -33,15 +34,16 @@ static bool expression_of(const struct step *step, const dwcheck_state *state, c
     dwcheck_fault fault;
     enum { LONGEST = 16 }; /* of a longer one dwcheck_evaluate may allocate memory */
     if (rule->length > LONGEST || (uint64_t)rule->offset + rule->length > section->frame_length) return false;
-    if (dwcheck_evaluate(section->frame + rule->offset, rule->length, DWCHECK_LITTLE, 8, DWCHECK_EXPRESSION_REGISTER, &context,
-                         state, 0, &value, NULL, 0, NULL, 0, &fault) != DWCHECK_DONE)
+    if (dwcheck_evaluate(section->frame + rule->offset, rule->length, DWCHECK_LITTLE, 8, DWCHECK_EXPRESSION_REGISTER,
+                         &context, state, 0, &value, NULL, 0, NULL, 0, &fault) != DWCHECK_DONE)
         return false;
     *address = value.value;
     return value.kind == DWCHECK_OUTCOME_VALUE;
 }
 
 /* Makes the places of a frame's registers those of its caller's, by one rule. */
-static void move_place(const struct step *step, const dwcheck_state *state, const dwcheck_rule *rule, const struct place before[REGISTERS]) {
+static void move_place(const struct step *step, const dwcheck_state *state, const dwcheck_rule *rule,
+                       const struct place before[REGISTERS]) {
     uint64_t address = step->written.cfa.value + (uint64_t)rule->offset;
     struct place *place = &step->places[rule->reg];
     switch (rule->kind) {
@@ -82,7 +84,8 @@ static void take(void *data) {
     if (step->status == DWCHECK_DONE)
         step->status = dwcheck_step_in(&step->module, &step->header, &step->cursor, &state, &step->written, &fault);
     step->is_without_row = step->status == DWCHECK_DONE && step->cursor.stage == DWCHECK_STOP_NOT_COVERED + 1;
-    if (step->places && step->status == DWCHECK_DONE && step->cursor.stage <= DWCHECK_CURSOR_CALLER) move_places(step, &state);
+    if (step->places && step->status == DWCHECK_DONE && step->cursor.stage <= DWCHECK_CURSOR_CALLER)
+        move_places(step, &state);
 }
 
 /* The kernel has saved the registers where a handler's stack pointer is when it returns. */
@@ -107,7 +110,8 @@ static bool gets_memory(const struct step *step, struct memory *memory) {
     return dwcheck_unwind_extend(memory, step->frame->values[RSP], cfa);
 }
 
-int dwcheck_unwind_by_cursor(struct cache *cache, struct frame *frame, struct memory *memory, uint64_t key, struct place *places) {
+int dwcheck_unwind_by_cursor(struct cache *cache, struct frame *frame, struct memory *memory, uint64_t key,
+                             struct place *places) {
     struct dwcheck_dl_module module;
     if (key == 0 || !dwcheck_unwind_module_at(key - 1, &module)) return -UNW_ENOINFO;
     struct step step = {.frame = frame, .memory = memory, .key = key, .places = places,

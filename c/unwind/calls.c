@@ -197,21 +197,23 @@ int unw_get_proc_info_by_ip(unw_addr_space_t space, unw_word_t address, unw_proc
     return dwcheck_unwind_procedure(address, info);
 }
 
-int unw_get_proc_info_in_range(unw_word_t start, unw_word_t end, unw_word_t table, unw_word_t table_length, unw_word_t frame_header,
-                               unw_word_t frame_header_length, unw_addr_space_t space, unw_word_t address, unw_proc_info_t *info,
-                               int need_unwind_info, void *context) {
+int unw_get_proc_info_in_range(unw_word_t start, unw_word_t end, unw_word_t table, unw_word_t table_length,
+                               unw_word_t frame_header, unw_word_t frame_header_length, unw_addr_space_t space,
+                               unw_word_t address, unw_proc_info_t *info, int need_unwind_info, void *context) {
     (void)start, (void)end, (void)table, (void)table_length, (void)frame_header, (void)frame_header_length;
     (void)space, (void)address, (void)info, (void)need_unwind_info, (void)context;
     return -UNW_ENOINFO;
 }
 
-int unw_get_proc_name_by_ip(unw_addr_space_t space, unw_word_t address, char *name, size_t size, unw_word_t *offset, void *context) {
+int unw_get_proc_name_by_ip(unw_addr_space_t space, unw_word_t address, char *name, size_t size, unw_word_t *offset,
+                            void *context) {
     (void)context;
     if (space != unw_local_addr_space || !name || size == 0) return -UNW_EINVAL;
     return dwcheck_unwind_name(address, name, size, offset);
 }
 
-int unw_get_elf_filename_by_ip(unw_addr_space_t space, unw_word_t address, char *name, size_t size, unw_word_t *offset, void *context) {
+int unw_get_elf_filename_by_ip(unw_addr_space_t space, unw_word_t address, char *name, size_t size, unw_word_t *offset,
+                               void *context) {
     (void)context;
     if (space != unw_local_addr_space || !name || size == 0) return -UNW_EINVAL;
     return dwcheck_unwind_file(address, name, size, offset);
@@ -244,18 +246,22 @@ int unw_backtrace2(void **addresses, int size, unw_context_t *context, int flag)
     const greg_t *from = context->uc_mcontext.gregs;
     const dwcheck_register_place place = {
         (uint64_t)from[REG_RIP], (uint64_t)from[REG_RIP] + (flag != 0), (uint64_t)from[REG_RSP], (uint64_t)from[REG_RBX],
-        (uint64_t)from[REG_RBP], (uint64_t)from[REG_R12], (uint64_t)from[REG_R13], (uint64_t)from[REG_R14], (uint64_t)from[REG_R15]};
+        (uint64_t)from[REG_RBP], (uint64_t)from[REG_R12], (uint64_t)from[REG_R13], (uint64_t)from[REG_R14],
+        (uint64_t)from[REG_R15]};
     return dwcheck_unwind_addresses(addresses, size, &place);
 }
 
 /* ---- the address space ---- */
 
-static int find_proc_info(unw_addr_space_t space, unw_word_t address, unw_proc_info_t *info, int need_unwind_info, void *context) {
+static int find_proc_info(unw_addr_space_t space, unw_word_t address, unw_proc_info_t *info, int need_unwind_info,
+                          void *context) {
     (void)need_unwind_info;
     return unw_get_proc_info_by_ip(space, address, info, context);
 }
 
-static void put_unwind_info(unw_addr_space_t space, unw_proc_info_t *info, void *context) { (void)space, (void)info, (void)context; }
+static void put_unwind_info(unw_addr_space_t space, unw_proc_info_t *info, void *context) {
+    (void)space, (void)info, (void)context;
+}
 
 static int get_dyn_info_list_addr(unw_addr_space_t space, unw_word_t *address, void *context) {
     (void)space, (void)context;

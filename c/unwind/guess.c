@@ -31,7 +31,8 @@ static int after_call(struct frame *frame, struct place *places, uint32_t guess)
 static int by_frame_pointer(struct frame *frame, struct place *places) {
     enum { FARTHEST = 0x4000 };
     uint64_t pointer = frame->values[RBP], stack_pointer = frame->values[RSP], saved, address;
-    if (!(frame->known >> RBP & 1) || pointer < stack_pointer || pointer - stack_pointer > FARTHEST) return dwcheck_unwind_end(frame);
+    if (!(frame->known >> RBP & 1) || pointer < stack_pointer || pointer - stack_pointer > FARTHEST)
+        return dwcheck_unwind_end(frame);
     if (!dwcheck_unwind_read(pointer, &saved) || !dwcheck_unwind_read(pointer + sizeof saved, &address))
         return dwcheck_unwind_end(frame);
     for (int i = 0; places && i < REGISTERS; i++) places[i] = (struct place){0};

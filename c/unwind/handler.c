@@ -16,6 +16,7 @@ bool dwcheck_unwind_leave_handler(struct frame *frame, struct memory *memory, st
     dwcheck_unwind_frame_of(frame, context, true);
     frame->is_interrupted = 1;
     frame->signal_context = saved;
-    for (int i = 0; places && i < REGISTERS; i++) places[i] = (struct place){(uint64_t)dwcheck_unwind_in_context(context, i), true};
+    for (int i = 0; places && i < REGISTERS; i++)
+        places[i] = (struct place){(uint64_t)dwcheck_unwind_in_context(context, i), true};
     return true;
 }

@@ -47,7 +47,8 @@ static bool has(const dwcheck_block *block, uint64_t address) { return address -
 
 bool dwcheck_unwind_has(const struct memory *memory, uint64_t address, uint64_t length) {
     const dwcheck_block *block = &memory->blocks[0];
-    return (has(block, address) && block->length - (address - block->base) >= length) || dwcheck_unwind_can_read(address, length);
+    return (has(block, address) && block->length - (address - block->base) >= length)
+           || dwcheck_unwind_can_read(address, length);
 }
 
 /* Where the thread's own stack ends if it is the one at this stack pointer: at the thread's control block, which glibc
@@ -112,7 +113,8 @@ bool dwcheck_unwind_extend(struct memory *memory, uint64_t stack_pointer, uint64
     if (cfa == 0) return has(block, stack_pointer) && lengthen(block, MORE_PAGES);
     for (int i = 0; i < BLOCKS; i++)
         if (has(&memory->blocks[i], last)) return false;
-    if (last >= end && (last - end) / PAGE < MOST_PAGES && lengthen(block, (last - end) / PAGE + 1) && has(block, last)) return true;
+    const bool is_near = last >= end && (last - end) / PAGE < MOST_PAGES;
+    if (is_near && lengthen(block, (last - end) / PAGE + 1) && has(block, last)) return true;
     memory->blocks[2] = memory->blocks[1];
     memory->blocks[1] = probe(last - SAVED);
     return has(&memory->blocks[1], last);

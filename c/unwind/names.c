@@ -39,7 +39,8 @@ static struct bytes map_file(const char *name) {
 static const ElfW(Shdr) *sections_of(struct bytes file, size_t *count) {
     const ElfW(Ehdr) *header = (const void *)file.first;
     if (file.length < sizeof *header || memcmp(file.first, ELFMAG, SELFMAG) != 0) return NULL;
-    if (header->e_ident[EI_CLASS] != ELFCLASS64 || header->e_shentsize != sizeof(ElfW(Shdr)) || header->e_shoff % 8 != 0) return NULL;
+    if (header->e_ident[EI_CLASS] != ELFCLASS64 || header->e_shentsize != sizeof(ElfW(Shdr)) || header->e_shoff % 8 != 0)
+        return NULL;
     if (!is_inside(file, header->e_shoff, (uint64_t)header->e_shnum * sizeof(ElfW(Shdr)))) return NULL;
     *count = header->e_shnum;
     return (const void *)(file.first + header->e_shoff);
@@ -53,13 +54,15 @@ static bool is_function(const ElfW(Sym) *symbol) {
 }
 
 /* Looks through one table for a function that is nearer. */
-static void look_through(struct bytes file, const ElfW(Shdr) *table, const ElfW(Shdr) *names, uint64_t address, struct nearest *nearest) {
+static void look_through(struct bytes file, const ElfW(Shdr) *table, const ElfW(Shdr) *names, uint64_t address,
+                         struct nearest *nearest) {
     if (!is_inside(file, table->sh_offset, table->sh_size) || !is_inside(file, names->sh_offset, names->sh_size)) return;
     if (table->sh_offset % 8 != 0) return;
     const ElfW(Sym) *symbols = (const void *)(file.first + table->sh_offset);
     for (size_t i = 0; i < table->sh_size / sizeof *symbols; i++) {
         const ElfW(Sym) *symbol = &symbols[i];
-        if (!is_function(symbol) || address - symbol->st_value >= nearest->distance || symbol->st_name >= names->sh_size) continue;
+        if (!is_function(symbol) || symbol->st_name >= names->sh_size) continue;
+        if (address - symbol->st_value >= nearest->distance) continue;
         *nearest = (struct nearest){address - symbol->st_value, (const char *)file.first + names->sh_offset + symbol->st_name,
                                     names->sh_size - symbol->st_name};
     }

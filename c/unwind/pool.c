@@ -38,7 +38,8 @@ static __thread unsigned last __attribute__((tls_model("initial-exec")));
 static bool try_to_claim(struct cache *cache) {
     bool is_free = false;
     return !atomic_load_explicit(&cache->is_claimed, memory_order_relaxed)
-           && atomic_compare_exchange_strong_explicit(&cache->is_claimed, &is_free, true, memory_order_acquire, memory_order_relaxed);
+           && atomic_compare_exchange_strong_explicit(&cache->is_claimed, &is_free, true, memory_order_acquire,
+                                                      memory_order_relaxed);
 }
 
 /* Empties a cache whose rows are older than the last flush. */
@@ -54,7 +55,8 @@ static struct cache *refreshed(struct cache *cache) {
 
 /* A thread begins with a cache that few others begin with. */
 static unsigned first_of_thread(void) {
-    if (last == 0) last = 1 + (unsigned)((uint64_t)__builtin_thread_pointer() * UINT64_C(0x9e3779b97f4a7c15) >> 58) % CACHES;
+    const uint64_t thread = (uint64_t)__builtin_thread_pointer();
+    if (last == 0) last = 1 + (unsigned)(thread * UINT64_C(0x9e3779b97f4a7c15) >> 58) % CACHES;
     return last - 1;
 }
 
@@ -109,11 +111,14 @@ static int slot_for(const struct cache *cache, const struct dwcheck_dl_object *o
 static bool is_same(const struct slot *slot, const struct dwcheck_dl_object *object) {
     const struct dwcheck_dl_module *module = &slot->module;
     if (module->layout != 0 || module->id_length != ID || object->map == NULL) return dwcheck_dl_is_same(module, object);
-    return module->object.first == object->first && module->object.end == object->end && module->object.header == object->header
-           && module->object.map == object->map && module->prepared == dwcheck_dl_preparations() && memcmp(slot->id, module->id, ID) == 0;
+    const struct dwcheck_dl_object *was = &module->object;
+    return was->first == object->first && was->end == object->end && was->header == object->header && was->map == object->map
+           && module->prepared == dwcheck_dl_preparations() && memcmp(slot->id, module->id, ID) == 0;
 }
 
-static bool has(const struct dwcheck_dl_object *object, uint64_t address) { return address - object->first < object->end - object->first; }
+static bool has(const struct dwcheck_dl_object *object, uint64_t address) {
+    return address - object->first < object->end - object->first;
+}
 
 /* The program, this library, and the C library, which this one needs, aren't unloaded before this library is. */
 static bool is_permanent(const struct dwcheck_dl_object *object) {
@@ -161,7 +166,8 @@ static void fill(void *data) {
     const dwcheck_module module = dwcheck_dl_section_of(found);
     const dwcheck_header header = dwcheck_dl_header_of(found);
     dwcheck_fault fault;
-    filling->status = dwcheck_rows_fill(&filling->cache->rows, (uint32_t)filling->slot, &module, &header, filling->address, &fault);
+    filling->status = dwcheck_rows_fill(&filling->cache->rows, (uint32_t)filling->slot, &module, &header, filling->address,
+                                        &fault);
 }
 
 uint32_t dwcheck_unwind_fill(struct cache *cache, int slot, uint64_t address) {

@@ -107,7 +107,8 @@ static bool any_fde(const dwcheck_module *module, uint64_t address, uint64_t *of
     return false;
 }
 
-static bool record_of(const dwcheck_module *module, const dwcheck_header *header, uint64_t address, uint64_t *offset, dwcheck_record *record) {
+static bool record_of(const dwcheck_module *module, const dwcheck_header *header, uint64_t address, uint64_t *offset,
+                      dwcheck_record *record) {
     dwcheck_fault fault;
     if (header->length == 0) return any_fde(module, address, offset, record);
     *offset = fde_of(module, header, address);

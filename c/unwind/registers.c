@@ -24,7 +24,8 @@ bool dwcheck_unwind_places(const struct cursor *cursor, struct place places[REGI
     struct memory memory = {0};
     if (cursor->has_no_places) return false;
     dwcheck_unwind_frame_of(&frame, cursor->context, cursor->is_exact);
-    for (int i = 0; i < REGISTERS; i++) places[i] = (struct place){(uint64_t)dwcheck_unwind_in_context(cursor->context, i), true};
+    for (int i = 0; i < REGISTERS; i++)
+        places[i] = (struct place){(uint64_t)dwcheck_unwind_in_context(cursor->context, i), true};
     struct cache *cache = cursor->steps ? dwcheck_unwind_claim() : NULL;
     if (cursor->steps && !cache) return false;
     uint64_t steps = 0;

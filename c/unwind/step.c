@@ -33,7 +33,8 @@ static int step_by_rows(struct cache *cache, struct frame *frame, const struct m
         dwcheck_register_frame written;
         size_t count;
         uint32_t stop;
-        dwcheck_walk_frames(dwcheck_unwind_rows(cache), UINT64_C(1) << slot, &place, memory->blocks, 1, &written, 1, &count, &stop);
+        dwcheck_walk_frames(dwcheck_unwind_rows(cache), UINT64_C(1) << slot, &place, memory->blocks, 1, &written, 1, &count,
+                            &stop);
         if (count == 1 && stop == DWCHECK_STOP_LIMIT) {
             go_to(frame, &place);
             return 1;
@@ -62,7 +63,7 @@ int dwcheck_unwind_step(struct cache *cache, struct frame *frame, struct memory 
     const uint64_t before = frame->values[RIP], stack_pointer = frame->values[RSP];
     dwcheck_unwind_reach(memory, stack_pointer);
     const int result = step(cache, frame, memory, places);
-    if (result > 0 && frame->key == 0) return dwcheck_unwind_end(frame); /* no interrupted null call, but where some threads begin */
+    if (result > 0 && frame->key == 0) return dwcheck_unwind_end(frame); /* where some threads begin; no null call */
     if (result > 0 && frame->values[RIP] == before && frame->values[RSP] == stack_pointer) return -UNW_EBADFRAME;
     return result;
 }
@@ -124,7 +125,8 @@ static bool catch_up(struct addresses *walk) {
 static bool leave_handler(struct addresses *walk) {
     struct frame frame = {.known = 0};
     frame.values[RIP] = frame.key = walk->place.address, frame.values[RSP] = walk->place.stack_pointer;
-    if (walk->place.key != walk->place.address || !dwcheck_unwind_leave_handler(&frame, &walk->memory, NULL, true)) return false;
+    if (walk->place.key != walk->place.address) return false;
+    if (!dwcheck_unwind_leave_handler(&frame, &walk->memory, NULL, true)) return false;
     walk->frame = frame;
     walk->behind = 0;
     return true;
@@ -138,7 +140,8 @@ static bool step_over(struct addresses *walk, uint32_t stop, void **address) {
         if (is_written) walk->behind--;
         if (!catch_up(walk) || dwcheck_unwind_step(walk->cache, &walk->frame, &walk->memory, NULL) <= 0) return false;
     }
-    walk->place = (dwcheck_place){walk->frame.values[RIP], walk->frame.key, walk->frame.values[RSP], walk->frame.values[RBP], 0, 0};
+    const uint64_t *values = walk->frame.values;
+    walk->place = (dwcheck_place){values[RIP], walk->frame.key, values[RSP], values[RBP], 0, 0};
     dwcheck_unwind_reach(&walk->memory, walk->place.stack_pointer);
     return true;
 }
@@ -150,8 +153,8 @@ enum { MOST_IDLE = 8 };
 static bool go_on(struct addresses *walk, void **addresses, int size, int *count) {
     size_t more;
     uint32_t stop;
-    dwcheck_walk(dwcheck_unwind_rows(walk->cache), walk->confirmed, &walk->place, walk->memory.blocks, 1, (uint64_t *)addresses,
-                 (size_t)size, &more, &stop);
+    dwcheck_walk(dwcheck_unwind_rows(walk->cache), walk->confirmed, &walk->place, walk->memory.blocks, 1,
+                 (uint64_t *)addresses, (size_t)size, &more, &stop);
     *count = (int)more;
     walk->behind += (int)more;
     walk->idle = more ? 0 : walk->idle + 1;

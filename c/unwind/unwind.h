@@ -89,7 +89,8 @@ HIDDEN int dwcheck_unwind_addresses(void **addresses, int size, const dwcheck_re
 
 /* ---- by_cursor.c: steps of a cursor of dwcheck.h; guess.c: frames without a row; handler.c: signals ---- */
 
-HIDDEN int dwcheck_unwind_by_cursor(struct cache *cache, struct frame *frame, struct memory *memory, uint64_t key, struct place *places);
+HIDDEN int dwcheck_unwind_by_cursor(struct cache *cache, struct frame *frame, struct memory *memory, uint64_t key,
+                                    struct place *places);
 HIDDEN int dwcheck_unwind_guess(struct frame *frame, struct place *places);
 /* Leaves a signal handler: from the code to which it returns to what the signal has interrupted, by what the kernel has
    saved. Returns false if the frame's code is another. `has_row` says that a row covers it, so it can be read. */
