@@ -4,8 +4,11 @@
 #include "unwind.h"
 
 #include <string.h>
+#include <sys/syscall.h>
+#include <unistd.h>
 
-enum { PAGE = 4096, RED_ZONE = 128, SAVED = 256, FIRST_PAGES = 2, MORE_PAGES = 16, MOST_PAGES = 2048, OVERFLOW_PAGES = 256 };
+enum { PAGE = 4096, RED_ZONE = 128, SAVED = 256, FIRST_PAGES = 2, MORE_PAGES = 16, MOST_PAGES = 2048, OVERFLOW_PAGES = 256,
+       OWN_PAGES = 1 << 16 };
 
 /* The main thread's stack ends near this address, which the loader has noted. */
 extern void *__libc_stack_end;
@@ -51,12 +54,11 @@ bool dwcheck_unwind_has(const struct memory *memory, uint64_t address, uint64_t 
            || dwcheck_unwind_can_read(address, length);
 }
 
-/* Where the thread's own stack ends if it is the one at this stack pointer: at the thread's control block, which glibc
-   puts on top of the stack; or for the main thread where the loader found the stack. */
-static uint64_t own_end(uint64_t stack_pointer) {
-    uint64_t of_thread = (uint64_t)__builtin_thread_pointer(), of_main = (uint64_t)__libc_stack_end;
-    uint64_t end = of_thread > stack_pointer && (of_thread < of_main || of_main <= stack_pointer) ? of_thread : of_main;
-    return end > stack_pointer ? (end / PAGE + 1) * PAGE : 0;
+/* Where the thread's own stack ends: at the thread's control block, which glibc puts on top of the stack; or for the main
+   thread where the loader found the stack. */
+static uint64_t own_end(void) {
+    const bool is_main = syscall(SYS_gettid) == getpid();
+    return ((is_main ? (uint64_t)__libc_stack_end : (uint64_t)__builtin_thread_pointer()) / PAGE + 1) * PAGE;
 }
 
 /* How many pages before `page` can be read, at most `most`. */
@@ -66,17 +68,19 @@ static uint64_t count_readable_below(uint64_t page, uint64_t most) {
     return count;
 }
 
-/* Makes the known part of the own stack reach down to this stack pointer. Returns whether it does. All pages up to the
-   end must be readable: so what is known is no other stack, which guard pages part from this one. */
+/* Makes the known part of the own stack reach down to this stack pointer, if it is on that stack. Returns whether it does.
+   From the end on all pages are readable: so what is known is no other stack, which guard pages part from this one. */
 static bool learn_own(uint64_t stack_pointer) {
-    const bool is_known = own.end != 0;
-    const uint64_t low = (stack_pointer - RED_ZONE) / PAGE, end = (is_known ? own.low : own_end(stack_pointer)) / PAGE;
-    if (end <= low || end - low > MOST_PAGES) return false;
-    if ((is_known ? count_readable_below(end, end - low) : count_readable(low, end - low)) < end - low) return false;
-    own.low = low * PAGE;
-    __asm__ volatile("" ::: "memory"); /* a signal handler sees a low end that belongs to the end */
-    if (!is_known) own.end = end * PAGE;
-    return true;
+    if (own.end == 0) {
+        const uint64_t end = own_end();
+        own.low = end;
+        __asm__ volatile("" ::: "memory"); /* a signal handler sees a low end that belongs to the end */
+        own.end = end;
+    }
+    const uint64_t low = (stack_pointer - RED_ZONE) / PAGE, known = own.low / PAGE;
+    if (low >= known || known - low > OWN_PAGES) return false;
+    own.low = (known - count_readable_below(known, known - low)) * PAGE;
+    return own.low / PAGE == low;
 }
 
 /* The memory of a frame with this stack pointer, with its red zone. After an overflow the stack pointer is in pages that
