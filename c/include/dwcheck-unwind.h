@@ -16,7 +16,7 @@
    - Memory is read only after the kernel has said that it can be: of the thread's own stack once, of others in each walk.
    - Rows are kept with each caching policy, since the module of each is confirmed before use; a cache has one size.
    - unw_resume leaves the floating-point environment as it is, and a DW_CFA_GNU_args_size counts as nothing.
-   - Names aren't looked for in compressed debug information (.gnu_debugdata).
+   - Names aren't looked for in compressed debug information (.gnu_debugdata), nor in a file that was replaced since.
    - unw_set_iterate_phdr_function does nothing: modules are those that the loader knows.
    - _ReadULEB, _ReadSLEB and __libunwind_Unwind_GetBSP, which are helpers of libunwind's, aren't there, and the calls for
      exceptions and backtrace are those of libgcc_s and the C library. */

@@ -1,42 +1,26 @@
 /* The name of the function that has an address, and the file that it is of. As in libunwind, the name is that of the
-   nearest function at or before the address, in the symbol tables of the module's file. No memory is allocated. */
+   nearest function at or before the address, in the symbol tables of the module's file, if that is still the one that was
+   loaded. No memory is allocated. */
 #include "../dl/files.h"
 #include "unwind.h"
 
 #include <elf.h>
-#include <fcntl.h>
 #include <link.h>
 #include <string.h>
 #include <sys/mman.h>
-#include <sys/stat.h>
 #include <unistd.h>
 
-struct bytes { const uint8_t *first; size_t length; };
+typedef struct dwcheck_dl_bytes bytes;
 
-static bool is_inside(struct bytes all, uint64_t offset, uint64_t length) {
-    return offset <= all.length && length <= all.length - offset;
-}
+static bool is_inside(bytes all, uint64_t offset, uint64_t length) { return offset <= all.length && length <= all.length - offset; }
 
 /* The loader gives no name for the program itself. */
 static const char *path_of(const struct link_map *map) {
     return map && map->l_name && map->l_name[0] ? map->l_name : DWCHECK_DL_PROGRAM;
 }
 
-static struct bytes map_file(const char *name) {
-    struct bytes file = {NULL, 0};
-    struct stat status;
-    int fd = open(name, O_RDONLY | O_CLOEXEC);
-    if (fd < 0) return file;
-    if (fstat(fd, &status) == 0 && S_ISREG(status.st_mode) && status.st_size > 0) {
-        void *bytes = mmap(NULL, (size_t)status.st_size, PROT_READ, MAP_PRIVATE, fd, 0);
-        if (bytes != MAP_FAILED) file = (struct bytes){bytes, (size_t)status.st_size};
-    }
-    close(fd);
-    return file;
-}
-
 /* The sections of an ELF file; NULL if it has none. */
-static const ElfW(Shdr) *sections_of(struct bytes file, size_t *count) {
+static const ElfW(Shdr) *sections_of(bytes file, size_t *count) {
     const ElfW(Ehdr) *header = (const void *)file.first;
     if (file.length < sizeof *header || memcmp(file.first, ELFMAG, SELFMAG) != 0) return NULL;
     if (header->e_ident[EI_CLASS] != ELFCLASS64 || header->e_shentsize != sizeof(ElfW(Shdr)) || header->e_shoff % 8 != 0)
@@ -54,7 +38,7 @@ static bool is_function(const ElfW(Sym) *symbol) {
 }
 
 /* Looks through one table for a function that is nearer. */
-static void look_through(struct bytes file, const ElfW(Shdr) *table, const ElfW(Shdr) *names, uint64_t address,
+static void look_through(bytes file, const ElfW(Shdr) *table, const ElfW(Shdr) *names, uint64_t address,
                          struct nearest *nearest) {
     if (!is_inside(file, table->sh_offset, table->sh_size) || !is_inside(file, names->sh_offset, names->sh_size)) return;
     if (table->sh_offset % 8 != 0) return;
@@ -69,7 +53,7 @@ static void look_through(struct bytes file, const ElfW(Shdr) *table, const ElfW(
 }
 
 /* The nearest function in all tables. One that is farther away than the file is long isn't near. */
-static struct nearest nearest_in(struct bytes file, uint64_t address) {
+static struct nearest nearest_in(bytes file, uint64_t address) {
     struct nearest nearest = {file.length, NULL, 0};
     size_t count = 0;
     const ElfW(Shdr) *sections = sections_of(file, &count);
@@ -99,15 +83,17 @@ static int registered_name(const unw_dyn_info_t *info, uint64_t address, char *n
 
 int dwcheck_unwind_name(uint64_t address, char *name, size_t size, unw_word_t *offset) {
     struct dwcheck_dl_object object;
+    struct dl_phdr_info info;
     const unw_dyn_info_t *registered = dwcheck_unwind_registered(address);
     name[0] = '\0';
     if (registered) return registered_name(registered, address, name, size, offset);
     if (!dwcheck_dl_find(address, &object) || !object.map) return -UNW_EUNSPEC; /* so does libunwind */
-    struct bytes file = map_file(path_of(object.map)), image = {(const uint8_t *)object.first, object.end - object.first};
-    struct nearest nearest = nearest_in(file.first ? file : image, address - object.map->l_addr);
+    const bytes image = {(const uint8_t *)object.first, object.end - object.first};
+    const bytes file = dwcheck_dl_info_of(&object, &info) ? dwcheck_dl_map_file(&info) : (bytes){NULL, 0};
+    struct nearest nearest = nearest_in(file.length ? file : image, address - object.map->l_addr);
     int result = nearest.name ? put_name(nearest.name, nearest.room, name, size) : -UNW_ENOINFO;
     if (nearest.name && offset) *offset = nearest.distance;
-    if (file.first) munmap((void *)file.first, file.length);
+    if (file.length) munmap((void *)file.first, file.length);
     return result;
 }
 
