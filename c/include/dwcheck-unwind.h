@@ -13,6 +13,8 @@
    - Another process can't be walked: unw_create_addr_space returns NULL, unw_init_remote takes the local address space
      alone, and the search of tables (dwarf_search_unwind_table and such) returns -UNW_ENOINFO.
    - A cursor that unw_init_local hasn't filled in, or a null pointer in place of one, is refused: -UNW_EINVAL.
+   - At a frame whose FDE the library refuses, or has no room for (dwcheck_row_in: an expression of more than 16 bytes), a
+     step returns -UNW_EBADFRAME.
    - Memory is read only after the kernel has said that it can be: of the thread's own stack once, of others in each walk.
    - Rows are kept with each caching policy, since the module of each is confirmed before use; a cache has one size.
    - unw_resume leaves the floating-point environment as it is, and a DW_CFA_GNU_args_size counts as nothing.
