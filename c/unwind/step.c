@@ -77,20 +77,20 @@ int dwcheck_unwind_step_by(struct cache *cache, struct frame *frame, struct memo
 /* ---- many frames at once ---- */
 
 /* A walk that writes addresses: it goes on from `place`, with the rows of `confirmed` slots. `frame` is a frame with all
-   its registers, `behind` frames before the next one to write. */
+   its registers, and `passed` frames have been written from it on. */
 struct addresses {
     struct cache *cache;
     struct memory memory;
     dwcheck_place place;
     uint64_t confirmed;
     struct frame frame;
-    int behind, idle;
+    int passed, idle;
 };
 
 static void begin(struct addresses *walk, const dwcheck_register_place *from) {
     for (int i = 0; i < BLOCKS; i++) walk->memory.blocks[i] = (dwcheck_block){0};
     walk->confirmed = dwcheck_unwind_permanent(walk->cache);
-    walk->behind = walk->idle = 0;
+    walk->passed = walk->idle = 0;
     walk->frame.known = KEPT_REGISTERS;
     walk->frame.is_last = 0;
     walk->frame.signal_context = 0;
@@ -115,9 +115,9 @@ static bool provide(struct addresses *walk) {
 /* Goes on to the frame after those that were written, with all registers. Returns whether there is one. */
 static bool catch_up(struct addresses *walk) {
     int result = 1;
-    for (; walk->behind > 0 && result > 0; walk->behind--)
+    for (; walk->passed > 0 && result > 0; walk->passed--)
         result = dwcheck_unwind_step(walk->cache, &walk->frame, &walk->memory, NULL);
-    walk->behind = 0;
+    walk->passed = 0;
     return result > 0;
 }
 
@@ -128,7 +128,7 @@ static bool leave_handler(struct addresses *walk) {
     if (walk->place.key != walk->place.address) return false;
     if (!dwcheck_unwind_leave_handler(&frame, &walk->memory, NULL, true)) return false;
     walk->frame = frame;
-    walk->behind = 0;
+    walk->passed = 0;
     return true;
 }
 
@@ -137,7 +137,7 @@ static bool step_over(struct addresses *walk, uint32_t stop, void **address) {
     const bool is_written = stop != DWCHECK_STOP_MISSING && stop != DWCHECK_STOP_OTHER;
     *address = is_written ? *address : (void *)walk->place.address;
     if (stop != DWCHECK_STOP_OTHER || !leave_handler(walk)) {
-        if (is_written) walk->behind--;
+        if (is_written) walk->passed--;
         if (!catch_up(walk) || dwcheck_unwind_step(walk->cache, &walk->frame, &walk->memory, NULL) <= 0) return false;
     }
     const uint64_t *values = walk->frame.values;
@@ -156,7 +156,7 @@ static bool go_on(struct addresses *walk, void **addresses, int size, int *count
     dwcheck_walk(dwcheck_unwind_rows(walk->cache), walk->confirmed, &walk->place, walk->memory.blocks, 1,
                  (uint64_t *)addresses, (size_t)size, &more, &stop);
     *count = (int)more;
-    walk->behind += (int)more;
+    walk->passed += (int)more;
     walk->idle = more ? 0 : walk->idle + 1;
     if (stop == DWCHECK_STOP_LIMIT || stop == DWCHECK_STOP_RETURN_UNDEFINED || walk->idle > MOST_IDLE) return false;
     if (stop == DWCHECK_STOP_MISSING && walk->place.key == 0) return false; /* where some threads begin */
