@@ -189,6 +189,7 @@ int main(int argc, char **argv) {
     ours = (struct calls){unw_getcontext, unw_init_local, unw_step, unw_get_reg, unw_backtrace, unw_set_caching_policy,
                           unw_local_addr_space};
     theirs = calls_of(library);
+    if (!theirs.step || theirs.step == ours.step) return 2;
     sigaltstack(&elsewhere, NULL);
     sigaction(SIGUSR1, &action, NULL);
     try_stack("the same stack again, 600 deep", DEPTH, SAME, time_all);
