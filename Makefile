@@ -24,7 +24,8 @@ INSTALL ?= install
 version := 2.0.0
 major := 2
 kit = $(dir $(shell rt doc))
-built := build/dwcheck build/libdwcheck.a build/libdwcheck.so.$(version) build/libdwcheck-dl.a build/libdwcheck-dl.so.$(version) build/dwcheck.pc build/dwcheck-dl.pc
+built := build/dwcheck build/libdwcheck.a build/libdwcheck.so.$(version) build/libdwcheck-dl.a build/libdwcheck-dl.so.$(version) \
+    build/unwind/libunwind.so.8 build/unwind/libunwind-x86_64.so.8 build/dwcheck.pc build/dwcheck-dl.pc
 pages := $(patsubst man/%.md,build/man/%,$(wildcard man/*.md))
 
 .PHONY: all try test packages dist install clean FORCE
@@ -103,6 +104,20 @@ build/libdwcheck-dl.so.$(version): build/libdwcheck-dl.a build/libdwcheck.so.$(v
 	$(CC) -shared -Wl,-z,defs -Wl,-z,now -Wl,-soname,libdwcheck-dl.so.$(major) -Wl,--version-script=c/dwcheck.map $(RUNPATH) \
 	    -Wl,--whole-archive $< -Wl,--no-whole-archive build/libdwcheck.so.$(version) -o $@
 
+# libunwind's calls over the library, under libunwind's names: in a folder of their own, so that only programs that are
+# told to find them. libgcc_s has the calls for exceptions, which libunwind has too.
+unwind_flags := -std=gnu11 -D_GNU_SOURCE -O2 -flto -fPIC -fstack-clash-protection -fasynchronous-unwind-tables -Wall -Wextra -Ic/include
+unwind_links := -shared -Wl,-z,defs -Wl,-z,now -Wl,-Bsymbolic-functions
+
+build/unwind/libunwind.so.8: $(wildcard c/unwind/*.[chS]) c/unwind/libunwind.map c/include/dwcheck-unwind.h build/libdwcheck-dl.a build/libdwcheck.a
+	@mkdir -p build/unwind
+	$(CC) $(unwind_flags) $(wildcard c/unwind/*.[cS]) build/libdwcheck-dl.a build/libdwcheck.a $(unwind_links) -Wl,-soname,libunwind.so.8 \
+	    -Wl,--version-script=c/unwind/libunwind.map -Wl,--no-as-needed -lgcc_s -o $@
+
+build/unwind/libunwind-x86_64.so.8: $(wildcard c/unwind/generic/*) c/include/dwcheck-unwind.h build/unwind/libunwind.so.8
+	$(CC) $(unwind_flags) $(wildcard c/unwind/generic/*.[cS]) build/unwind/libunwind.so.8 $(unwind_links) \
+	    -Wl,-rpath,'$$ORIGIN' -Wl,-soname,libunwind-x86_64.so.8 -Wl,--version-script=c/unwind/generic/libunwind-x86_64.map -o $@
+
 build/%.pc: c/%.pc.in FORCE | build
 	@sed -e 's|@PREFIX@|$(PREFIX)|' -e 's|@LIBDIR@|$(patsubst $(PREFIX)/%,$${prefix}/%,$(LIBDIR))|' \
 	    -e 's|@INCLUDEDIR@|$(patsubst $(PREFIX)/%,$${prefix}/%,$(INCLUDEDIR))|' \
@@ -128,7 +143,7 @@ build/dwcheck-elf: build/libdwcheck.a FORCE
 
 install: all
 	$(INSTALL) -d $(DESTDIR)$(BINDIR) $(DESTDIR)$(LIBDIR)/pkgconfig $(DESTDIR)$(INCLUDEDIR) \
-	    $(DESTDIR)$(MANDIR)/man1 $(DESTDIR)$(MANDIR)/man3 $(DESTDIR)$(LIBDIR)/cmake/dwcheck
+	    $(DESTDIR)$(MANDIR)/man1 $(DESTDIR)$(MANDIR)/man3 $(DESTDIR)$(LIBDIR)/cmake/dwcheck $(DESTDIR)$(LIBDIR)/dwcheck
 	$(INSTALL) -m 755 build/dwcheck $(DESTDIR)$(BINDIR)/
 	if [ -f build/dwcheck-elf ]; then $(INSTALL) -m 755 build/dwcheck-elf $(DESTDIR)$(BINDIR)/; fi
 	$(INSTALL) -m 644 build/libdwcheck.a $(DESTDIR)$(LIBDIR)/
@@ -138,10 +153,12 @@ install: all
 	    ln -sf $$name.so.$(version) $(DESTDIR)$(LIBDIR)/$$name.so.$(major) && \
 	    ln -sf $$name.so.$(major) $(DESTDIR)$(LIBDIR)/$$name.so || exit 1; \
 	done
+	$(INSTALL) -m 755 build/unwind/libunwind.so.8 build/unwind/libunwind-x86_64.so.8 $(DESTDIR)$(LIBDIR)/dwcheck/
 	$(INSTALL) -m 644 build/dwcheck.pc build/dwcheck-dl.pc $(DESTDIR)$(LIBDIR)/pkgconfig/
 	$(INSTALL) -m 644 c/dwcheckConfig.cmake $(DESTDIR)$(LIBDIR)/cmake/dwcheck/
 	sed 's/@VERSION@/$(version)/' c/dwcheckConfigVersion.cmake.in >$(DESTDIR)$(LIBDIR)/cmake/dwcheck/dwcheckConfigVersion.cmake
-	$(INSTALL) -m 644 c/include/dwcheck.h c/include/dwcheck.hpp c/include/dwcheck.cppm c/include/dwcheck-dl.h $(DESTDIR)$(INCLUDEDIR)/
+	$(INSTALL) -m 644 c/include/dwcheck.h c/include/dwcheck.hpp c/include/dwcheck.cppm c/include/dwcheck-dl.h \
+	    c/include/dwcheck-unwind.h $(DESTDIR)$(INCLUDEDIR)/
 	$(INSTALL) -m 644 build/man/dwcheck.1 $(DESTDIR)$(MANDIR)/man1/
 	if [ -f build/dwcheck-elf ]; then $(INSTALL) -m 644 build/man/dwcheck-elf.1 $(DESTDIR)$(MANDIR)/man1/; fi
 	$(INSTALL) -m 644 build/man/dwcheck.3 $(DESTDIR)$(MANDIR)/man3/

@@ -12,7 +12,8 @@ name=dwcheck-$version-x86_64-linux
 out=build/dist/$name
 
 [ -z "$(git status --porcelain)" ] || { echo "the tree has changes that aren't committed" >&2; exit 1; }
-for file in dwcheck dwcheck-elf libdwcheck.a "libdwcheck.so.$version" libdwcheck-dl.a "libdwcheck-dl.so.$version" man/dwcheck.1 man/dwcheck-elf.1 man/dwcheck.3; do
+for file in dwcheck dwcheck-elf libdwcheck.a "libdwcheck.so.$version" libdwcheck-dl.a "libdwcheck-dl.so.$version" \
+    unwind/libunwind.so.8 unwind/libunwind-x86_64.so.8 man/dwcheck.1 man/dwcheck-elf.1 man/dwcheck.3; do
     [ -f "build/$file" ] || { echo "build/$file isn't there: run make first" >&2; exit 1; }
 done
 
@@ -66,7 +67,7 @@ provenance() {
         dpkg -S "$library" 2> /dev/null || dpkg -S "/usr$library"
     done | sed 's/: .*//' | LC_ALL=C sort -u | xargs dpkg-query -W -f '${Package} ${Version}\n'
     echo
-    echo "Not proved: dwcheck-elf, libdwcheck-dl, dwcheck.hpp, dwcheck.cppm, dwcheck.py, and the C files of c/."
+    echo "Not proved: dwcheck-elf, libdwcheck-dl, libunwind's calls (lib/unwind), dwcheck.hpp, dwcheck.cppm, dwcheck.py, and the C files of c/."
 }
 
 # The licenses of what the programs and libraries contain beside this project's own files: crates of the
@@ -95,7 +96,8 @@ for library in libdwcheck libdwcheck-dl; do
     ln -s "$library.so.$version" "$out/lib/$library.so.2"
     ln -s "$library.so.2" "$out/lib/$library.so"
 done
-put 644 include c/include/dwcheck.h c/include/dwcheck.hpp c/include/dwcheck.cppm c/include/dwcheck-dl.h
+put 755 lib/unwind build/unwind/libunwind.so.8 build/unwind/libunwind-x86_64.so.8
+put 644 include c/include/dwcheck.h c/include/dwcheck.hpp c/include/dwcheck.cppm c/include/dwcheck-dl.h c/include/dwcheck-unwind.h
 install -d "$out/lib/pkgconfig"
 relocatable dwcheck
 relocatable dwcheck-dl

@@ -153,6 +153,8 @@ STAGES = [
           after=("proofs", "build")),
     Stage("c", "the C library, with sanitizers and valgrind", "c/tests/run.sh", counted_lines, progress="^(ok .*)",
           environment={"LIBRARY": str(BUILD / "libdwcheck.a")}),
+    Stage("unwind", "libunwind's own tests and unchanged programs, over the library", "WORK=build/suite bench/unwind/suite.sh build/unwind; bench/unwind/clients.py build/unwind",
+          counted_lines, progress="^(ok .*)"),
     Stage("examples", "frames of the examples beside those of gdb and eu-stack", "examples/run.sh", counted_lines,
           progress="^(ok .*)", environment=RUST),
 ]

@@ -5,11 +5,14 @@
 # wrapper.cc, as C++17, as C++20 and over the module; and those of cases.c while allocations fail in turn,
 # with sanitizers, and under valgrind. Before that, the headers are compiled as C11, C17 and C++17; passing
 # a pointer of a wrong type must be an error.
+# The tests of libunwind's calls take the libraries of build/unwind, or of the folder that UNWIND names, and run beside
+# Debian's libunwind8.
 # Prints a line `ok NAME` or `FAILED NAME` for each, and ends with status 1 if one failed.
 set -u
 top=$(dirname "$(dirname "$(dirname "$(realpath "$0")")")")
 library=${LIBRARY:-$top/build/libdwcheck.a}
 dl_library=${DL_LIBRARY:-$top/build/libdwcheck-dl.a}
+unwind=${UNWIND:-$top/build/unwind}
 out=$(mktemp -d)
 trap 'rm -rf "$out"' EXIT
 strict="-Wall -Wextra -pedantic -Werror -I$top/c/include"
@@ -270,6 +273,51 @@ module_has_all_names() { # compares the names that dwcheck.h declares with those
     diff "$out/declared" "$out/exported"
 }
 
+of_libunwind() { # NAME: the path of a library of libunwind's
+    /sbin/ldconfig -p | sed -n "s/^[[:space:]]*$(printf %s "$1" | sed 's/[.]/[.]/g') .*=> //p" | head -n 1
+}
+
+unwind_header() { # COMPILER STANDARD LANGUAGE
+    printf '#include "dwcheck-unwind.h"\n' | $1 "-std=$2" $strict -x "$3" -c - -o "$out/header.o"
+}
+
+unwind_layouts() { # libunwind's header and ours have the sizes and places for which the libraries are compiled
+    cc -std=gnu11 -DWITH_LIBUNWIND -c "$top/c/tests/unwind_layout.c" -o "$out/layout.o" &&
+        cc -std=gnu11 "-I$top/c/include" -c "$top/c/tests/unwind_layout.c" -o "$out/layout.o"
+}
+
+names_in() { # LIBRARY..: the names that they export
+    nm -D --defined-only "$@" | awk 'NF == 3 { print $3 }' | sort -u
+}
+
+# Each name that libunwind's two libraries export, but for those that programs find in libgcc_s and the C library, and three
+# helpers of libunwind's own; and each one that our header declares.
+unwind_names() {
+    names_in "$unwind"/*.so.8 > "$out/ours"
+    {
+        names_in "$(of_libunwind libunwind.so.8)" "$(of_libunwind libunwind-x86_64.so.8)" |
+            grep -vx 'backtrace\|_Unwind_.*\|_ReadULEB\|_ReadSLEB\|__libunwind_Unwind_GetBSP'
+        cc -E -P -I"$top/c/include" -include dwcheck-unwind.h -x c /dev/null | grep -o '\b_Ux86_64_[a-z_0-9]*\|\b_ULx86_64_[a-z_0-9]*\|\b_U_dyn_[a-z_]*(' | tr -d '('
+    } | sort -u > "$out/wanted"
+    comm -13 "$out/ours" "$out/wanted" > "$out/absent"
+    cat "$out/absent"
+    [ ! -s "$out/absent" ] && [ "$(wc -l < "$out/wanted")" -gt 60 ]
+}
+
+build_unwind() { # FLAG..: builds the tests of libunwind's calls. Its PLT has no rows, so that these are guessed
+    cc -std=gnu11 -D_GNU_SOURCE $strict -O2 -g "$@" "$top/c/tests/unwind.c" "$unwind/libunwind.so.8" "-Wl,-rpath,$unwind" \
+        -Wl,--no-ld-generated-unwind-info -Wl,-z,lazy -fcf-protection=none -fplt -o "$out/unwind" -pthread -ldl
+}
+
+unwind_input() { # builds the tests of these calls with bad input, and runs them
+    cc -std=gnu11 -D_GNU_SOURCE $strict -O2 -g "$top/c/tests/unwind_input.c" "$unwind/libunwind.so.8" "-Wl,-rpath,$unwind" -o "$out/unwind_input" &&
+        "$out/unwind_input"
+}
+
+unwind() { # builds these tests and runs them beside libunwind
+    build_unwind "$@" && "$out/unwind" "$(of_libunwind libunwind.so.8)"
+}
+
 cases_under_valgrind() {
     build plain && valgrind -q --error-exitcode=1 --leak-check=full "$out/plain"
 }
@@ -315,6 +363,12 @@ test_of "a stack whose rows are in both sections, of a program without functions
 test_of "the same, of a program whose headers and code are in one segment" both_sections -Wl,--gc-sections -Wl,-z,noseparate-code
 test_of "a stack of a program whose .debug_frame is refused" refused_section
 test_of "a .debug_frame that changes while it is copied" changed_section
+test_of "the header with libunwind's names as C11" unwind_header cc c11 c
+test_of "the header with libunwind's names as C++17" unwind_header c++ c++17 c++
+test_of "types of libunwind have the same layout" unwind_layouts
+test_of "the libraries with libunwind's names export all of them" unwind_names
+test_of "frames by libunwind's calls are those of libunwind" unwind
+test_of "libunwind's calls answer cursors and contexts of any bytes" unwind_input
 test_of "the header for C++ as C++17, beside that for C" wrapper c++17
 test_of "the header for C++ as C++20, whose frames are a range" wrapper c++20
 test_of "the header for C++ as a module of C++20" as_module

@@ -1,0 +1,75 @@
+#!/usr/bin/env bash
+# Runs the tests of libunwind itself, unchanged, with our libraries in the place of its own.
+#   bench/unwind/suite.sh FOLDER     FOLDER has our libunwind.so.8 (build/unwind)
+# Half a minute. The tests are compiled from Debian's source, which apt fetches. These variables may be set:
+#   WORK      a folder in which the source stays; else it is fetched each time
+#   SOURCE    a folder with the unpacked source, which isn't fetched then
+# This needs libunwind-dev.
+# A test that fails is run with Debian's libunwind8, too: if it passes there, it has to pass here. Prints a line `ok NAME`
+# or `FAILED NAME` for each, and `left out NAME: REASON` for those that aren't of the stack of their own process.
+set -u
+folder=$(realpath "$1")
+here=$(dirname "$(realpath "$0")")
+. "$here/../../tools/each_test.sh"
+work=${WORK:-$(mktemp -d)}
+mkdir -p "$work" && work=$(realpath "$work")
+[ -n "${WORK:-}" ] || trap 'rm -rf "$work"' EXIT
+
+# Lists of sources of its own, since most systems have none.
+fetch() {
+    mkdir -p "$work/lists/partial" "$work/archives/partial" "$work/parts" "$work/source"
+    sed -s 's/^Types: deb$/Types: deb-src/' /etc/apt/sources.list.d/debian*.sources > "$work/parts/debian.sources" 2> /dev/null
+    sed -n 's/^deb /deb-src /p' /etc/apt/sources.list > "$work/parts/debian.list" 2> /dev/null
+    local options="-q -o Dir::Etc::SourceList=/dev/null -o Dir::Etc::SourceParts=$work/parts -o Dir::State::Lists=$work/lists -o Dir::Cache=$work"
+    (cd "$work" && apt-get $options update && apt-get $options source --download-only libunwind) > "$work/fetch.log" 2>&1 &&
+        tar -C "$work/source" --strip-components=1 -xf "$work"/libunwind_*.orig.tar.*z
+}
+
+# Compiles a test as libunwind's Makefile does, and links it to those of Debian's libraries that it needs.
+build() { # TEST
+    local more= compiler="gcc -std=gnu11" file
+    case $1 in
+    *test-bt | *test-trace) more=ident.c ;;
+    *dwarf-expressions) more=x64-test-dwarf-expressions.S ;;
+    Ltest-init-local-signal) more=Ltest-init-local-signal-lib.c ;;
+    esac
+    file=$(cd "$source/tests" && ls "$1.c" "$1.cxx" 2> /dev/null)
+    case $file in *.cxx) compiler=g++ ;; esac
+    (cd "$source/tests" && $compiler -w -g -O2 -fno-optimize-sibling-calls -fexceptions -D_GNU_SOURCE -DHAVE_EXECINFO_H=1 \
+        -DHAVE_SYS_PTRACE_H=1 -I../include "$file" $more -Wl,--as-needed -lunwind-x86_64 -lunwind -lpthread -ldl -o "$work/$1") > "$work/build.log" 2>&1
+}
+
+run() { # TEST LIBRARIES: runs a test with the libraries of a folder, or with the system's
+    env ${2:+LD_LIBRARY_PATH="$2"} timeout 120 "$work/$1" > "$work/$1.log" 2>&1
+}
+
+passes() { # TEST
+    build "$1" || { tail -n 3 "$work/build.log"; return 1; }
+    run "$1" "$folder" && return 0
+    tail -n 5 "$work/$1.log"
+    ! run "$1" "" && echo "it fails with libunwind, too"
+}
+
+leave_out() { # REASON TEST..
+    local reason=$1 test
+    shift
+    for test in "$@"; do echo "left out $test: $reason"; done
+}
+
+source=${SOURCE:-$work/source}
+[ -d "$source/tests" ] || fetch || { echo "FAILED libunwind's source can't be fetched: $(tail -n 1 "$work/fetch.log")"; exit 1; }
+
+for test in test-strerror Gtest-bt Ltest-bt Gtest-exc Ltest-exc Gtest-init Ltest-init Gtest-concurrent Ltest-concurrent \
+    Gtest-resume-sig Ltest-resume-sig Gtest-resume-sig-rt Ltest-resume-sig-rt Gtest-trace Ltest-trace Ltest-init-local-signal \
+    Ltest-mem-validate test-async-sig test-flush-cache test-init-remote test-mem test-reg-state Ltest-varargs Ltest-nomalloc \
+    Ltest-nocalloc Lrs-race Ltest-cxx-exceptions Gx64-test-dwarf-expressions Lx64-test-dwarf-expressions \
+    x64-unwind-badjmp-signal-frame; do
+    test_of "$test" passes "$test"
+done
+leave_out "it walks by accessors of its own, as for another process" test-proc-info
+leave_out "it walks another process" test-ptrace run-ptrace-mapper run-ptrace-misc
+leave_out "it walks a core file, and fails with libunwind" run-coredump-unwind run-coredump-unwind-mdi
+leave_out "it is linked statically, so it would not run with ours" test-static-link
+leave_out "libunwind-setjmp has libunwind in itself" test-setjmp
+leave_out "it compares names with those of libunwind's own build; c/tests/run.sh does that for ours" run-check-namespace
+exit $status

@@ -1,0 +1,335 @@
+/* The calls of libunwind, under the names that its header gives to local ones. */
+#include "layout.h"
+#include "unwind.h"
+
+#include <string.h>
+
+/* The local address space is known by its address alone. */
+struct unw_addr_space { unw_accessors_t accessors; unw_caching_policy_t policy; };
+
+#define MARK UINT64_C(0x646e776e752d6b63) /* what a cursor begins with once a call has filled it in */
+
+static struct cursor *cursor_of(unw_cursor_t *cursor) {
+    struct cursor *own = (void *)cursor;
+    return own && own->mark == MARK ? own : NULL;
+}
+
+int unw_init_local2(unw_cursor_t *cursor, unw_context_t *context, int flag) {
+    struct cursor *own = (void *)cursor;
+    if (!cursor || !context || (flag != 0 && flag != UNW_INIT_SIGNAL_FRAME)) return -UNW_EINVAL;
+    *own = (struct cursor){.mark = MARK, .context = context, .is_exact = flag == UNW_INIT_SIGNAL_FRAME};
+    dwcheck_unwind_frame_of(&own->frame, context, own->is_exact);
+    return 0;
+}
+
+int unw_init_local(unw_cursor_t *cursor, unw_context_t *context) { return unw_init_local2(cursor, context, 0); }
+
+int unw_init_remote(unw_cursor_t *cursor, unw_addr_space_t space, void *context) {
+    return space == unw_local_addr_space ? unw_init_local(cursor, context) : -UNW_EINVAL;
+}
+
+int unw_step(unw_cursor_t *cursor) {
+    struct cursor *own = cursor_of(cursor);
+    if (!own) return -UNW_EINVAL;
+    if (own->frame.is_last) return 0;
+    struct cache *cache = dwcheck_unwind_claim();
+    if (!cache) return -UNW_ENOMEM;
+    int result = dwcheck_unwind_step(cache, &own->frame, &own->memory, NULL);
+    dwcheck_unwind_give_back(cache);
+    if (result > 0) own->steps++;
+    return result;
+}
+
+/* ---- registers ---- */
+
+int unw_get_reg(unw_cursor_t *cursor, int number, unw_word_t *value) {
+    const struct cursor *own = cursor_of(cursor);
+    if (!own || !value) return -UNW_EINVAL;
+    if (number == UNW_X86_64_CFA) number = RSP;
+    if (number < 0 || number >= REGISTERS) return -UNW_EBADREG;
+    if (number != RIP && !(own->frame.known >> number & 1)) return -UNW_EBADREG;
+    *value = own->frame.values[number];
+    return 0;
+}
+
+/* Writes to where the register is saved, so that the program continues with it. */
+static int write_place(struct cursor *own, int number, unw_word_t value) {
+    struct place places[REGISTERS];
+    if (!dwcheck_unwind_places(own, places)) return -UNW_EUNSPEC;
+    if (!places[number].is_saved || !dwcheck_unwind_can_read(places[number].address, sizeof value)) return -UNW_EBADREG;
+    memcpy((void *)places[number].address, &value, sizeof value);
+    return 0;
+}
+
+/* The registers in which a landing pad gets its arguments are the cursor's alone, as in libunwind. */
+int unw_set_reg(unw_cursor_t *cursor, int number, unw_word_t value) {
+    struct cursor *own = cursor_of(cursor);
+    if (!own) return -UNW_EINVAL;
+    if (number == UNW_X86_64_CFA || number == RSP) return -UNW_EREADONLYREG;
+    if (number < 0 || number >= REGISTERS) return -UNW_EBADREG;
+    bool is_argument = number == UNW_X86_64_RAX || number == UNW_X86_64_RDX;
+    int result = is_argument ? 0 : write_place(own, number, value);
+    if (result < 0) return result;
+    own->frame.values[number] = value;
+    own->frame.known |= 1u << number;
+    if (number == RIP) own->frame.key = value + own->frame.is_interrupted;
+    return 0;
+}
+
+int unw_get_fpreg(unw_cursor_t *cursor, int number, unw_fpreg_t *value) {
+    (void)number, (void)value;
+    return cursor_of(cursor) ? -UNW_EBADREG : -UNW_EINVAL;
+}
+
+int unw_set_fpreg(unw_cursor_t *cursor, int number, unw_fpreg_t value) {
+    (void)number, (void)value;
+    return cursor_of(cursor) ? -UNW_EBADREG : -UNW_EINVAL;
+}
+
+int unw_get_save_loc(unw_cursor_t *cursor, int number, unw_save_loc_t *location) {
+    const struct cursor *own = cursor_of(cursor);
+    struct place places[REGISTERS];
+    if (!own || !location) return -UNW_EINVAL;
+    memset(location, 0, sizeof *location);
+    if (number < 0 || number >= REGISTERS || !(KEPT_REGISTERS >> number & 1)) return 0;
+    if (!dwcheck_unwind_places(own, places)) return -UNW_EUNSPEC;
+    if (!places[number].is_saved) return 0;
+    location->type = UNW_SLT_MEMORY;
+    location->u.addr = places[number].address;
+    return 0;
+}
+
+int unw_is_signal_frame(unw_cursor_t *cursor) {
+    const struct cursor *own = cursor_of(cursor);
+    return own ? (int)own->frame.is_interrupted : -UNW_EINVAL;
+}
+
+int unw_is_guess(unw_cursor_t *cursor) {
+    const struct cursor *own = cursor_of(cursor);
+    return own ? (int)own->frame.guess : -UNW_EINVAL;
+}
+
+/* If the walk has left a signal handler, continues as if the handler returned, so that the signal mask is restored. */
+int unw_resume(unw_cursor_t *cursor) {
+    struct cursor *own = cursor_of(cursor);
+    if (!own) return -UNW_EINVAL;
+    if (own->frame.is_last || !(own->frame.known >> RSP & 1)) return -UNW_EBADFRAME;
+    ucontext_t *saved = (void *)own->frame.signal_context;
+    if (!saved) dwcheck_unwind_continue(own->frame.values);
+    if (!dwcheck_unwind_can_read((uint64_t)saved, offsetof(ucontext_t, __ssp))) return -UNW_EBADFRAME;
+    for (int i = 0; i < REGISTERS; i++)
+        if (own->frame.known >> i & 1) *dwcheck_unwind_in_context(saved, i) = own->frame.values[i];
+    dwcheck_unwind_return_from_signal(saved);
+}
+
+/* ---- rows of a function ---- */
+
+/* A row, as unw_reg_states_iterate passes it on: one of its addresses, by which it is found again. */
+struct row_state { uint64_t mark, address; };
+
+struct row_look_up { const struct dwcheck_dl_module *module; uint64_t address; dwcheck_row row; uint32_t status; };
+
+static void look_up(void *data) {
+    struct row_look_up *wanted = data;
+    const dwcheck_module module = dwcheck_dl_section_of(wanted->module);
+    const dwcheck_header header = dwcheck_dl_header_of(wanted->module);
+    dwcheck_rule rules[1];
+    dwcheck_fault fault;
+    uint32_t is_signal_frame;
+    wanted->status = dwcheck_row_in(&module, &header, wanted->address, &wanted->row, rules, 1, &is_signal_frame, &fault);
+}
+
+/* The row of an address; or false. */
+static bool row_at(const struct dwcheck_dl_module *module, uint64_t address, dwcheck_row *row) {
+    struct row_look_up wanted = {.module = module, .address = address, .status = DWCHECK_REFUSED};
+    struct cache *cache = dwcheck_unwind_claim();
+    if (!cache) return false;
+    dwcheck_unwind_on_stack(cache, look_up, &wanted);
+    dwcheck_unwind_give_back(cache);
+    *row = wanted.row;
+    return wanted.status == DWCHECK_DONE;
+}
+
+int unw_reg_states_iterate(unw_cursor_t *cursor, unw_reg_states_callback callback, void *token) {
+    const struct cursor *own = cursor_of(cursor);
+    unw_proc_info_t info;
+    struct dwcheck_dl_module module;
+    dwcheck_row row;
+    if (!own || !callback) return -UNW_EINVAL;
+    int result = dwcheck_unwind_procedure(own->frame.key - 1, &info);
+    if (result == 0 && !dwcheck_unwind_module_at(own->frame.key - 1, &module)) result = -UNW_ENOINFO;
+    for (uint64_t address = info.start_ip; result >= 0 && address < info.end_ip; address = row.end + module.load_address) {
+        if (!row_at(&module, address, &row)) return -UNW_EBADFRAME;
+        struct row_state state = {MARK, address};
+        result = callback(token, &state, sizeof state, address, row.end + module.load_address);
+    }
+    return result;
+}
+
+int unw_apply_reg_state(unw_cursor_t *cursor, void *state) {
+    struct cursor *own = cursor_of(cursor);
+    const struct row_state *row = state;
+    if (!own || !row || row->mark != MARK) return -UNW_EINVAL;
+    struct cache *cache = dwcheck_unwind_claim();
+    if (!cache) return -UNW_ENOMEM;
+    int result = dwcheck_unwind_step_by(cache, &own->frame, &own->memory, row->address + 1);
+    dwcheck_unwind_give_back(cache);
+    own->has_no_places = 1;
+    return result;
+}
+
+/* ---- functions ---- */
+
+/* On x86-64 some functions where a stack begins have no FDE, so libunwind gives them one address. */
+int unw_get_proc_info(unw_cursor_t *cursor, unw_proc_info_t *info) {
+    const struct cursor *own = cursor_of(cursor);
+    if (!own || !info) return -UNW_EINVAL;
+    if (dwcheck_unwind_procedure(own->frame.key - 1, info) == 0) return 0;
+    memset(info, 0, sizeof *info);
+    info->start_ip = own->frame.values[RIP];
+    info->end_ip = info->start_ip + 1;
+    return 0;
+}
+
+int unw_get_proc_info_by_ip(unw_addr_space_t space, unw_word_t address, unw_proc_info_t *info, void *context) {
+    (void)context;
+    if (space != unw_local_addr_space || !info) return -UNW_EINVAL;
+    return dwcheck_unwind_procedure(address, info);
+}
+
+int unw_get_proc_info_in_range(unw_word_t start, unw_word_t end, unw_word_t table, unw_word_t table_length,
+                               unw_word_t frame_header, unw_word_t frame_header_length, unw_addr_space_t space,
+                               unw_word_t address, unw_proc_info_t *info, int need_unwind_info, void *context) {
+    (void)start, (void)end, (void)table, (void)table_length, (void)frame_header, (void)frame_header_length;
+    (void)space, (void)address, (void)info, (void)need_unwind_info, (void)context;
+    return -UNW_ENOINFO;
+}
+
+int unw_get_proc_name_by_ip(unw_addr_space_t space, unw_word_t address, char *name, size_t size, unw_word_t *offset,
+                            void *context) {
+    (void)context;
+    if (space != unw_local_addr_space || !name || size == 0) return -UNW_EINVAL;
+    return dwcheck_unwind_name(address, name, size, offset);
+}
+
+int unw_get_elf_filename_by_ip(unw_addr_space_t space, unw_word_t address, char *name, size_t size, unw_word_t *offset,
+                               void *context) {
+    (void)context;
+    if (space != unw_local_addr_space || !name || size == 0) return -UNW_EINVAL;
+    return dwcheck_unwind_file(address, name, size, offset);
+}
+
+/* A return address is looked up at the call before it, but its offset is its own. */
+static int at_frame(unw_cursor_t *cursor, char *name, size_t size, unw_word_t *offset,
+                    int find(uint64_t address, char *name, size_t size, unw_word_t *offset)) {
+    const struct cursor *own = cursor_of(cursor);
+    if (!own || !name || size == 0) return -UNW_EINVAL;
+    int result = find(own->frame.key - 1, name, size, offset);
+    if (result == 0 && offset) *offset += own->frame.values[RIP] - (own->frame.key - 1);
+    return result;
+}
+
+int unw_get_proc_name(unw_cursor_t *cursor, char *name, size_t size, unw_word_t *offset) {
+    return at_frame(cursor, name, size, offset, dwcheck_unwind_name);
+}
+
+int unw_get_elf_filename(unw_cursor_t *cursor, char *name, size_t size, unw_word_t *offset) {
+    return at_frame(cursor, name, size, offset, dwcheck_unwind_file);
+}
+
+/* ---- many frames at once; unw_backtrace is in context.S ---- */
+
+int unw_backtrace2(void **addresses, int size, unw_context_t *context, int flag) {
+    if (size <= 0) return 0;
+    if (!context) return unw_backtrace(addresses, size);
+    if (flag != 0 && flag != UNW_INIT_SIGNAL_FRAME) return 0;
+    const greg_t *from = context->uc_mcontext.gregs;
+    const dwcheck_register_place place = {
+        (uint64_t)from[REG_RIP], (uint64_t)from[REG_RIP] + (flag != 0), (uint64_t)from[REG_RSP], (uint64_t)from[REG_RBX],
+        (uint64_t)from[REG_RBP], (uint64_t)from[REG_R12], (uint64_t)from[REG_R13], (uint64_t)from[REG_R14],
+        (uint64_t)from[REG_R15]};
+    return dwcheck_unwind_addresses(addresses, size, &place);
+}
+
+/* ---- the address space ---- */
+
+static int find_proc_info(unw_addr_space_t space, unw_word_t address, unw_proc_info_t *info, int need_unwind_info,
+                          void *context) {
+    (void)need_unwind_info;
+    return unw_get_proc_info_by_ip(space, address, info, context);
+}
+
+static void put_unwind_info(unw_addr_space_t space, unw_proc_info_t *info, void *context) {
+    (void)space, (void)info, (void)context;
+}
+
+static int get_dyn_info_list_addr(unw_addr_space_t space, unw_word_t *address, void *context) {
+    (void)space, (void)context;
+    *address = _U_dyn_info_list_addr();
+    return 0;
+}
+
+static int access_mem(unw_addr_space_t space, unw_word_t address, unw_word_t *value, int is_write, void *context) {
+    (void)space, (void)context;
+    if (!is_write) return dwcheck_unwind_read(address, value) ? 0 : -UNW_EUNSPEC;
+    memcpy((void *)address, value, sizeof *value);
+    return 0;
+}
+
+static int access_reg(unw_addr_space_t space, unw_regnum_t number, unw_word_t *value, int is_write, void *context) {
+    uint64_t *place = context ? dwcheck_unwind_in_context(context, number) : NULL;
+    (void)space;
+    if (!place) return -UNW_EBADREG;
+    if (is_write) *place = *value;
+    else *value = *place;
+    return 0;
+}
+
+static int access_fpreg(unw_addr_space_t space, unw_regnum_t number, unw_fpreg_t *value, int is_write, void *context) {
+    (void)space, (void)number, (void)value, (void)is_write, (void)context;
+    return -UNW_EBADREG;
+}
+
+static int resume(unw_addr_space_t space, unw_cursor_t *cursor, void *context) {
+    (void)space, (void)context;
+    return unw_resume(cursor);
+}
+
+static struct unw_addr_space local = {
+    .accessors = {.find_proc_info = find_proc_info, .put_unwind_info = put_unwind_info,
+                  .get_dyn_info_list_addr = get_dyn_info_list_addr, .access_mem = access_mem, .access_reg = access_reg,
+                  .access_fpreg = access_fpreg, .resume = resume, .get_proc_name = unw_get_proc_name_by_ip,
+                  .get_elf_filename = unw_get_elf_filename_by_ip},
+    .policy = UNW_CACHE_GLOBAL};
+unw_addr_space_t unw_local_addr_space = &local;
+
+unw_addr_space_t unw_create_addr_space(unw_accessors_t *accessors, int byte_order) {
+    (void)accessors, (void)byte_order;
+    return NULL;
+}
+
+void unw_destroy_addr_space(unw_addr_space_t space) { (void)space; }
+
+unw_accessors_t *unw_get_accessors(unw_addr_space_t space) { return space ? &space->accessors : NULL; }
+
+void unw_flush_cache(unw_addr_space_t space, unw_word_t low, unw_word_t high) {
+    (void)space, (void)low, (void)high;
+    dwcheck_unwind_flush();
+}
+
+int unw_set_caching_policy(unw_addr_space_t space, unw_caching_policy_t policy) {
+    if (space != &local || (policy != UNW_CACHE_NONE && policy != UNW_CACHE_GLOBAL && policy != UNW_CACHE_PER_THREAD))
+        return -UNW_EINVAL;
+    if (space->policy != policy) dwcheck_unwind_flush();
+    space->policy = policy;
+    return 0;
+}
+
+int unw_set_cache_size(unw_addr_space_t space, size_t size, int flag) {
+    (void)size;
+    if (space != &local || flag != 0) return -UNW_EUNSPEC;
+    dwcheck_unwind_flush();
+    return 0;
+}
+
+void unw_set_iterate_phdr_function(unw_addr_space_t space, unw_iterate_phdr_func_t function) { (void)space, (void)function; }

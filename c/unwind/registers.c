@@ -1,0 +1,35 @@
+/* Frames of contexts, and where the registers of a cursor's frame are saved. Steps don't note that, since few programs
+   ask for it: a walk from the context to the frame finds it. */
+#include "unwind.h"
+
+/* The places of registers in a context, by their DWARF numbers. */
+static const uint8_t in_context[REGISTERS] = {REG_RAX, REG_RDX, REG_RCX, REG_RBX, REG_RSI, REG_RDI, REG_RBP, REG_RSP, REG_R8,
+                                              REG_R9,  REG_R10, REG_R11, REG_R12, REG_R13, REG_R14, REG_R15, REG_RIP};
+
+uint64_t *dwcheck_unwind_in_context(ucontext_t *context, int number) {
+    return number < 0 || number >= REGISTERS ? NULL : (uint64_t *)&context->uc_mcontext.gregs[in_context[number]];
+}
+
+void dwcheck_unwind_frame_of(struct frame *frame, const ucontext_t *context, bool is_exact) {
+    for (int i = 0; i < REGISTERS; i++) frame->values[i] = (uint64_t)context->uc_mcontext.gregs[in_context[i]];
+    frame->key = frame->values[RIP] + is_exact;
+    frame->known = ALL_REGISTERS;
+    frame->guess = UNW_GUESS_NONE;
+    frame->is_interrupted = frame->is_last = 0;
+    frame->signal_context = 0;
+}
+
+bool dwcheck_unwind_places(const struct cursor *cursor, struct place places[REGISTERS]) {
+    struct frame frame;
+    struct memory memory = {0};
+    if (cursor->has_no_places) return false;
+    dwcheck_unwind_frame_of(&frame, cursor->context, cursor->is_exact);
+    for (int i = 0; i < REGISTERS; i++)
+        places[i] = (struct place){(uint64_t)dwcheck_unwind_in_context(cursor->context, i), true};
+    struct cache *cache = cursor->steps ? dwcheck_unwind_claim() : NULL;
+    if (cursor->steps && !cache) return false;
+    uint64_t steps = 0;
+    while (steps < cursor->steps && dwcheck_unwind_step(cache, &frame, &memory, places) > 0) steps++;
+    if (cache) dwcheck_unwind_give_back(cache);
+    return steps == cursor->steps;
+}

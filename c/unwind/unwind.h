@@ -1,0 +1,125 @@
+/* What the files of this folder share: the state of a walk, and what each file does for the others. Modules are found as
+   dwcheck-dl finds them (c/dl/find.h). */
+#ifndef DWCHECK_UNWIND_INTERNAL_H
+#define DWCHECK_UNWIND_INTERNAL_H
+
+#include "dwcheck-unwind.h"
+#include "../dl/find.h"
+#include "dwcheck.h"
+#include <stdbool.h>
+
+#define HIDDEN __attribute__((visibility("hidden")))
+
+/* Registers by their DWARF numbers, which are libunwind's too. */
+enum { RBX = 3, RBP = 6, RSP = 7, R12 = 12, R13 = 13, R14 = 14, R15 = 15, RIP = 16, REGISTERS = 17 };
+enum { ALL_REGISTERS = (1 << REGISTERS) - 1 };
+/* Those that a walk with kept rows needs. */
+enum { KEPT_REGISTERS = 1 << RBX | 1 << RBP | 1 << RSP | 1 << R12 | 1 << R13 | 1 << R14 | 1 << R15 | 1 << RIP };
+
+/* ---- memory.c: what may be read ---- */
+
+/* The memory that a walk may read: that near its stack pointer, and that of frames elsewhere. */
+struct memory { dwcheck_block blocks[3]; };
+enum { BLOCKS = 3 };
+
+/* Makes sure that the memory has the stack at this stack pointer, if it can be read. */
+HIDDEN void dwcheck_unwind_reach(struct memory *memory, uint64_t stack_pointer);
+/* Adds memory above what there is, or at the word below `cfa` if that isn't 0. Returns whether there is more. */
+HIDDEN bool dwcheck_unwind_extend(struct memory *memory, uint64_t stack_pointer, uint64_t cfa);
+/* Whether the first block has these bytes, or if not, the kernel says that they can be read; at most a page. */
+HIDDEN bool dwcheck_unwind_has(const struct memory *memory, uint64_t address, uint64_t length);
+/* Whether these bytes, at most a page, can be read. */
+HIDDEN bool dwcheck_unwind_can_read(uint64_t address, uint64_t length);
+/* Reads a word, or returns false. */
+HIDDEN bool dwcheck_unwind_read(uint64_t address, uint64_t *word);
+
+/* ---- modules.c: the sections of an address ---- */
+
+/* The module of an address, or the registered table that has it. Returns whether there is one with rows. */
+HIDDEN bool dwcheck_unwind_module_at(uint64_t address, struct dwcheck_dl_module *module);
+
+/* ---- pool.c: caches of rows ---- */
+
+struct cache;
+/* A cache that no other walk uses until it is given back; NULL if all are in use. */
+HIDDEN struct cache *dwcheck_unwind_claim(void);
+HIDDEN void dwcheck_unwind_give_back(struct cache *cache);
+HIDDEN dwcheck_rows *dwcheck_unwind_rows(struct cache *cache);
+/* The slot of the module that has an address, which is loaded; or -1. */
+HIDDEN int dwcheck_unwind_slot(struct cache *cache, uint64_t address);
+/* The slots of modules that can't be unloaded, so that walks needn't confirm them. */
+HIDDEN uint64_t dwcheck_unwind_permanent(const struct cache *cache);
+/* Keeps the row of an address of a slot's module. Returns what dwcheck_rows_fill returns. */
+HIDDEN uint32_t dwcheck_unwind_fill(struct cache *cache, int slot, uint64_t address);
+/* Calls a function that needs much stack, on the cache's own. Signals wait meanwhile. */
+HIDDEN void dwcheck_unwind_on_stack(struct cache *cache, void (*function)(void *), void *data);
+/* After this, no cache has rows. */
+HIDDEN void dwcheck_unwind_flush(void);
+
+/* ---- step.c: walks ---- */
+
+/* A frame: its registers, of which those are known whose bits are set; the address to look up, plus 1; how it was found. */
+struct frame {
+    uint64_t values[REGISTERS], key;
+    uint32_t known, guess, is_interrupted, is_last;
+    uint64_t signal_context; /* where the kernel has saved registers, for the last handler that the walk has left; or 0 */
+};
+
+/* Where a register of a frame is: in memory, or nowhere and has the frame's value. */
+struct place { uint64_t address; bool is_saved; };
+
+/* What a cursor of libunwind's is here. */
+struct cursor {
+    uint64_t mark; /* that it is one */
+    ucontext_t *context;
+    uint64_t steps;
+    struct frame frame;
+    struct memory memory;
+    uint32_t is_exact, has_no_places;
+};
+_Static_assert(sizeof(struct cursor) <= sizeof(unw_cursor_t), "a cursor fits");
+
+/* Moves a frame to its caller. Returns what unw_step does. If `places` isn't NULL, it has the places of the registers of
+   the frame, and they become those of the caller. */
+HIDDEN int dwcheck_unwind_step(struct cache *cache, struct frame *frame, struct memory *memory, struct place *places);
+/* The same with the row of another address. */
+HIDDEN int dwcheck_unwind_step_by(struct cache *cache, struct frame *frame, struct memory *memory, uint64_t key);
+/* Writes the addresses of the frames from a place on, and returns their number. */
+HIDDEN int dwcheck_unwind_addresses(void **addresses, int size, const dwcheck_register_place *from);
+
+/* ---- by_cursor.c: steps of a cursor of dwcheck.h; guess.c: frames without a row; handler.c: signals ---- */
+
+HIDDEN int dwcheck_unwind_by_cursor(struct cache *cache, struct frame *frame, struct memory *memory, uint64_t key,
+                                    struct place *places);
+HIDDEN int dwcheck_unwind_guess(struct frame *frame, struct place *places);
+/* Leaves a signal handler: from the code to which it returns to what the signal has interrupted, by what the kernel has
+   saved. Returns false if the frame's code is another. `has_row` says that a row covers it, so it can be read. */
+HIDDEN bool dwcheck_unwind_leave_handler(struct frame *frame, struct memory *memory, struct place *places, bool has_row);
+/* Ends a walk: the frame stays, and its address becomes 0. */
+HIDDEN int dwcheck_unwind_end(struct frame *frame);
+
+/* ---- registers.c: frames of contexts, and where registers are ---- */
+
+HIDDEN void dwcheck_unwind_frame_of(struct frame *frame, const ucontext_t *context, bool is_exact);
+HIDDEN uint64_t *dwcheck_unwind_in_context(ucontext_t *context, int number);
+/* The places of the registers of a cursor's frame. Returns whether they could be found. */
+HIDDEN bool dwcheck_unwind_places(const struct cursor *cursor, struct place places[REGISTERS]);
+
+/* ---- names.c, procedures.c, registered.c: what is known of an address ---- */
+
+HIDDEN int dwcheck_unwind_name(uint64_t address, char *name, size_t size, unw_word_t *offset);
+HIDDEN int dwcheck_unwind_file(uint64_t address, char *name, size_t size, unw_word_t *offset);
+HIDDEN int dwcheck_unwind_procedure(uint64_t address, unw_proc_info_t *info);
+HIDDEN const unw_dyn_info_t *dwcheck_unwind_registered(uint64_t address);
+HIDDEN bool dwcheck_unwind_registered_table(uint64_t address, struct dwcheck_dl_module *module);
+
+/* ---- context.S ---- */
+
+/* Continues with these registers, by DWARF's numbers. */
+HIDDEN _Noreturn void dwcheck_unwind_continue(const uint64_t registers[REGISTERS]);
+/* Returns from a signal handler, whose kernel's context this is. */
+HIDDEN _Noreturn void dwcheck_unwind_return_from_signal(void *context);
+/* Calls a function with the stack pointer `top`. */
+HIDDEN void dwcheck_unwind_call(void (*function)(void *), void *data, void *top);
+
+#endif
