@@ -126,7 +126,8 @@ pub fn write_stacks(
     let (inlined, source, raw) = (!arguments.no_inline, !arguments.no_source, arguments.raw_names);
     stacks.show_names(NameOptions { inlined, source, raw });
     if arguments.vars {
-        stacks.show_variables(Shape { depth: arguments.depth, ..Shape::default() }, arguments.registers);
+        let shape = Shape { depth: arguments.depth, length: arguments.elements.into(), ..Shape::default() };
+        stacks.show_variables(shape, arguments.registers);
     }
     if arguments.modules {
         stacks.show_modules();

@@ -1,5 +1,6 @@
 //! Finds where a variable is, by its expression or its location list.
 
+use super::value::Layouts;
 use super::value_location::{Machine, Missing, Pointee, ValueLocation};
 use super::{Frame, Variables};
 use crate::debug::debug_info::{Die, Slice};
@@ -34,6 +35,8 @@ pub(super) struct Locator<'v, 'a> {
     frame_base: Cell<Option<u64>>,
     /// Where the thread's variables of the file are, if that is known. `None` if it wasn't looked for.
     thread_block: Cell<Option<Option<u64>>>,
+    /// How the containers keep what they hold.
+    pub layouts: Layouts<'v, 'a>,
     depth: usize,
     /// How many more of these operations are looked up.
     left: Rc<Cell<usize>>,
@@ -52,8 +55,9 @@ impl<'v, 'a> Locator<'v, 'a> {
         machine: Machine<'v>,
         left: Rc<Cell<usize>>,
     ) -> Self {
-        let (frame_base, thread_block) = (Cell::new(None), Cell::new(None));
-        let locator = Locator { variables, function, frame, machine, frame_base, thread_block, depth: 0, left };
+        let (frame_base, thread_block, layouts) = (Cell::new(None), Cell::new(None), Layouts::default());
+        let locator =
+            Locator { variables, function, frame, machine, frame_base, thread_block, layouts, depth: 0, left };
         locator.frame_base.set(locator.read_frame_base());
         locator
     }

@@ -31,19 +31,26 @@ impl<'v, 'a> Locator<'v, 'a> {
         left: &mut usize,
     ) -> Result<Value, Missing> {
         let at = self.address_value(kind, part)?;
+        Ok(match type_of(kind) {
+            Some(target) => self.reference_to(at, &target, shape, left),
+            None => Value::Scalar(format!("{:#x}", at)),
+        })
+    }
+
+    /// An address with the value of this type that is there.
+    pub(super) fn reference_to(&self, at: u64, target: &Die<'v, 'a>, shape: Shape, left: &mut usize) -> Value {
         let address = format!("{:#x}", at);
-        let target = match type_of(kind) {
-            Some(target) if !unqualified_type(&target).map_or(false, |target| is_function_type(&target)) => target,
-            _ => return Ok(Value::Scalar(address)),
-        };
+        if unqualified_type(target).map_or(false, |target| is_function_type(&target)) {
+            return Value::Scalar(address);
+        }
         let value = match shape.pointers.checked_sub(1) {
-            Some(pointers) => self.size_of_type(&target).and_then(|size| {
+            Some(pointers) => self.size_of_type(target).and_then(|size| {
                 let part = Part { place: &ValueLocation::Memory(at), size, offset: 0 };
-                self.value_of_part(&target, part, Shape { pointers, ..shape }, left)
+                self.value_of_part(target, part, Shape { pointers, ..shape }, left)
             }),
             None => Ok(Value::Deeper),
         };
-        Ok(Value::Reference(address, Box::new(value)))
+        Value::Reference(address, Box::new(value))
     }
 
     fn address_value(&self, kind: &Die<'v, 'a>, part: Part<'_>) -> Result<u64, Missing> {
