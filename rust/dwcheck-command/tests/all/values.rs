@@ -215,3 +215,54 @@ fn references_and_pointers_to_members() {
     let json = dwcheck_elf(&folder, "vars --json --core core");
     assert!(json.out.contains("\"value\":{\"address\":\"0x") && json.out.contains("\"value\":\"3\"}"), "{}", json.out);
 }
+
+const LINKED: &str = "
+struct node { int value; struct node *next, *self; };
+__attribute__((noinline)) int work(struct node *first, int *number, int (*call)(int)) {
+    int *lost = (int *)16;
+    __builtin_trap();
+    return first->value + *number + *lost + call(1);
+}
+int twice(int n) { return 2 * n; }
+int main(int argc, char **argv) {
+    struct node last = {3, 0, 0}, second = {2, &last, 0}, first = {1, &second, &first};
+    last.next = &first;
+    return work(&first, &argc, twice);
+}
+";
+
+/// gdb writes what is expected, with the addresses and the numbers that it knows.
+#[test]
+fn pointers_are_followed_and_circles_are_cut() {
+    let folder = Folder::new("values-linked");
+    if !may_trace() {
+        return;
+    }
+    folder.write("a.c", LINKED);
+    folder.run("gcc -g a.c -o program");
+    folder.crash("./program");
+    let one = "@%p: {value = %d, next = ";
+    let two = r#"%p, self = 0x0}, self = @%p: {..}}\n", first, first->value, first->next, first->next->value"#;
+    let last = r#"@%p: {..}, self = 0x0}, self = 0x0}, self = @%p: {..}}\n", first, first->value, first->next, first->next->value"#;
+    let commands = [
+        format!(r#"printf "first = {0}{0}{1}, first->next->next, first"#, one, two),
+        format!(
+            r#"printf "first = {0}{0}{0}{1}, first->next->next, first->next->next->value, first, first"#,
+            one, last
+        ),
+        r#"printf "number = @%p: %d\n", number, *number"#.to_string(),
+    ];
+    let theirs = by_gdb(&folder, &commands.iter().map(String::as_str).collect::<Vec<_>>());
+    let theirs: Vec<_> = theirs.iter().filter(|line| line.contains(" = @")).collect();
+    let ours = |options: &str| {
+        let ran = dwcheck_elf(&folder, &format!("vars --core core {}", options));
+        ran.lines().into_iter().map(str::to_string).collect::<Vec<_>>()
+    };
+    let has = |lines: &[String], value: &str| lines.iter().any(|line| line.contains(&format!("{} (", value)));
+    let (two, four) = (ours("--pointers 2"), ours("--pointers 4"));
+    let value = |line: &str| line.split_once(" = ").unwrap().1.to_string();
+    assert!(has(&two, &value(theirs[0])) && has(&four, &value(theirs[1])), "{:?} {:?} {:?}", theirs, two, four);
+    assert!(has(&two, &value(theirs[2])) && has(&two, "@0x10: <unreadable: memory at 0x10>"), "{:?}", two);
+    // A function is no object.
+    assert!(two.iter().any(|line| line.contains("call: int () * = 0x")), "{:?}", two);
+}
