@@ -126,8 +126,8 @@ pub fn write_stacks(
     let (inlined, source, raw) = (!arguments.no_inline, !arguments.no_source, arguments.raw_names);
     stacks.show_names(NameOptions { inlined, source, raw });
     if arguments.vars {
-        let shape = Shape { depth: arguments.depth, length: arguments.elements.into(), ..Shape::default() };
-        stacks.show_variables(shape, arguments.registers);
+        let (depth, length, pointers) = (arguments.depth, arguments.elements.into(), arguments.pointers.into());
+        stacks.show_variables(Shape { depth, length, pointers, ..Shape::default() }, arguments.registers);
     }
     if arguments.modules {
         stacks.show_modules();

@@ -75,6 +75,9 @@ pub struct StackArguments {
     /// With --vars: show this many elements of an array or a container, and characters of a text, at most 10000
     #[arg(long, value_name = "N", default_value_t = 200, requires = "vars", value_parser = clap::value_parser!(u16).range(1..=10_000))]
     pub elements: u16,
+    /// With --vars: follow this many pointers to objects, one after another
+    #[arg(long, value_name = "N", default_value_t = 0, requires = "vars", value_parser = clap::value_parser!(u8).range(0..=64))]
+    pub pointers: u8,
     /// Print the stack of several threads once if it is the same
     #[arg(long, conflicts_with = "vars")]
     pub group: bool,
@@ -164,6 +167,9 @@ pub struct VarsArguments {
     /// Show this many elements of an array or a container, and characters of a text, at most 10000
     #[arg(long, value_name = "N", default_value_t = 200, value_parser = clap::value_parser!(u16).range(1..=10_000))]
     pub elements: u16,
+    /// Follow this many pointers to objects, one after another. An object that leads back to itself is {..} there
+    #[arg(long, value_name = "N", default_value_t = 0, value_parser = clap::value_parser!(u8).range(0..=64))]
+    pub pointers: u8,
     /// Write one document of JSON, whose keys docs/OUTPUT.md lists
     #[arg(long)]
     pub json: bool,

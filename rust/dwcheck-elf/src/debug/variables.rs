@@ -12,6 +12,7 @@ mod scopes;
 mod split;
 mod text;
 mod thread_local;
+mod typed;
 mod types;
 mod value;
 mod value_location;

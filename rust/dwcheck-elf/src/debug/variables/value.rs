@@ -64,13 +64,15 @@ pub struct Shape {
     pub depth: usize,
     /// The most elements of an array or a container, and the most characters of a text.
     pub length: usize,
-    /// How many references, and pointers to variables without an address, are followed, one after another.
+    /// How many references, owners, and pointers to variables without an address are followed, one after another.
+    pub references: usize,
+    /// How many other pointers are followed, one after another.
     pub pointers: usize,
 }
 
 impl Default for Shape {
     fn default() -> Self {
-        Shape { depth: 1, length: 200, pointers: 4 }
+        Shape { depth: 1, length: 200, references: 4, pointers: 0 }
     }
 }
 
@@ -108,7 +110,13 @@ impl<'v, 'a> Locator<'v, 'a> {
         let size = self.size_of_type(kind)?;
         let shape = Shape { depth: shape.depth.min(MAX_DEPTH), ..shape };
         let mut left = MAX_MEMBERS.max(shape.length);
-        self.value_of_part(kind, Part { place, size, offset: 0 }, shape, &mut left)
+        let value = |left: &mut usize| self.value_of_part(kind, Part { place, size, offset: 0 }, shape, left);
+        match *place {
+            ValueLocation::Memory(address) => {
+                self.unless_shown(address, kind, || value(&mut left)).unwrap_or(Ok(Value::Deeper))
+            }
+            _ => value(&mut left),
+        }
     }
 
     fn value_of_part(
@@ -136,7 +144,7 @@ impl<'v, 'a> Locator<'v, 'a> {
                 }
             }
             gimli::DW_TAG_pointer_type if is_box(&kind) => self.reference_value(&kind, part, shape, left),
-            gimli::DW_TAG_pointer_type => self.pointer_value(&kind, part, shape),
+            gimli::DW_TAG_pointer_type => self.pointer_value(&kind, part, shape, left),
             gimli::DW_TAG_ptr_to_member_type => self.pointer_to_member(&kind, part),
             tag if is_reference_tag(tag) => self.reference_value(&kind, part, shape, left),
             _ => Err(Missing::Unsupported("a type of this kind")),
@@ -161,7 +169,7 @@ impl<'v, 'a> Locator<'v, 'a> {
         shape: Shape,
         left: &mut usize,
     ) -> Result<Value, Missing> {
-        if shape.depth == 0 {
+        if shape.depth == 0 || *left == 0 {
             return Ok(Value::Deeper);
         }
         let inner = Shape { depth: shape.depth - 1, ..shape };
