@@ -82,7 +82,9 @@ def stops_of(dwcheck_elf, program, word, stops, seed, cores, folder):
         json.dump(asked, file)
     line = ["gdb", "--batch", "-nx", "-iex", "add-auto-load-safe-path /", "-d", printers,
             "-x", os.path.join(HERE, "containers", "by_gdb.py"), program]
-    subprocess.run(line, env=environment, capture_output=True, stdin=subprocess.DEVNULL, check=True)
+    ran = subprocess.run(line, env=environment, capture_output=True, text=True, stdin=subprocess.DEVNULL)
+    if not os.path.exists(os.path.join(folder, "stops")):
+        sys.exit(f"{program}: {ran.stderr}")
     with open(os.path.join(folder, "stops")) as file:
         found = json.load(file)
     if cores:

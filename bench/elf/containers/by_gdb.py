@@ -28,7 +28,7 @@ STRUCTURES = (gdb.TYPE_CODE_STRUCT, gdb.TYPE_CODE_UNION)
 PLAIN = re.compile(r"(std::(\w+::)*weak_ptr<|alloc::(rc|sync)::Weak<|map\[|std::(\w+::)*(pair|tuple)<)")
 
 
-def value_of(value, depth=DEPTH):
+def value_of(value, depth):
     """What a variable, a member or an element holds. "?" if that isn't compared."""
     kind = value.type.strip_typedefs()
     if depth == 0 or PLAIN.match(kind.name or ""):
@@ -57,7 +57,8 @@ def value_of(value, depth=DEPTH):
     return variables.plain(value)
 
 
-def part(value, depth):
+def part(value, depth=DEPTH):
+    """The same. None if gdb can't read it."""
     try:
         return value_of(value, depth)
     except (gdb.error, RuntimeError, OverflowError):
@@ -70,6 +71,8 @@ def by_printer(value, printer, depth):
     hint = printer.display_hint() if hasattr(printer, "display_hint") else None
     if hint == "string":
         return text_of(printer.to_string())
+    if not hasattr(printer, "children"):
+        return "?"  # an iterator
     parts = list(itertools.islice(printer.children(), 2 * ELEMENTS if hint == "map" else ELEMENTS))
     values = [part(value, depth) if isinstance(value, gdb.Value) else str(value) for _, value in parts]
     if name == "UniquePointerPrinter":
@@ -134,7 +137,7 @@ def stop(asked, load, number):
         variables.write_state(path, frames[0], list(writable()))
         line = ["vars", "--json", "--depth", "16", "--load", hex(load), "--state", path, asked["program"], hex(address)]
     ran = subprocess.run([asked["dwcheck_elf"]] + line, capture_output=True, text=True)
-    theirs = [one for place, each in enumerate(reversed(frames)) for one in variables.variables(each, place, value_of)]
+    theirs = [one for place, each in enumerate(reversed(frames)) for one in variables.variables(each, place, part)]
     return {"address": address, "core": path, "variables": theirs, "ours": ran.stdout, "error": ran.stderr}
 
 

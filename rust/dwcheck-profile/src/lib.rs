@@ -17,6 +17,7 @@
 mod batch;
 pub mod calls;
 mod collect;
+pub mod compared;
 mod error;
 pub mod firefox;
 pub mod folded;

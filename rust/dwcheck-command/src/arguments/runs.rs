@@ -75,6 +75,10 @@ pub struct ProfileArguments {
     /// What perf recorded; - for what `perf record -o -` writes to a pipe
     #[arg(default_value = "perf.data")]
     pub recording: PathBuf,
+    /// Compare with this recording, the older one: top shows the shares of functions in both, those first that changed
+    /// most; html draws greater shares red and smaller ones blue; folded has two weights for each stack
+    #[arg(long, value_name = "OLD")]
+    pub compare: Option<PathBuf>,
     /// What to write
     #[arg(long, value_enum, default_value_t = Format::Folded)]
     pub format: Format,
