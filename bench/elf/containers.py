@@ -12,6 +12,7 @@ or for libc++, of which gdb has none, LLDB's formatters on a core file. Each var
     equal                    both show the same value, which isn't a container
     equal, but not all is read   the debugger couldn't read a part, such as of a container that isn't made yet
     plain structure          vars shows the members of a container, since its values aren't those of one
+    implicit pointer         vars says to which variable without an address it points; debuggers have other numbers
     neither                  neither of the two has a value
     not evaluated: WHY       the debugger has a value, and vars says why it has none
     only dwcheck-elf         the debugger has no value
@@ -135,7 +136,7 @@ def main():
 
     def count(what, example):
         counts[what] += 1
-        if len(examples[what]) < 3:
+        if len(examples[what]) < (20 if what == "DIFFERENT" else 3):
             examples[what].append(example[:2000])
 
     for program in (program for program in PROGRAMS if words.only in program[0]):

@@ -13,6 +13,7 @@ object with one of these keys, as judge.py compares them:
 import itertools
 import os
 import re
+import signal
 import subprocess
 import sys
 
@@ -23,13 +24,15 @@ import variables  # noqa: E402
 
 # How deep values are read, and how many elements of a container. The most bytes of a mapping in a state file.
 DEPTH, ELEMENTS, MAPPING = 8, 200, 8 << 20
+# How long gdb may take for a variable.
+SECONDS = 3
 STRUCTURES = (gdb.TYPE_CODE_STRUCT, gdb.TYPE_CODE_UNION)
 # What vars shows as the structures that they are.
 PLAIN = re.compile(r"(std::(\w+::)*weak_ptr<|alloc::(rc|sync)::Weak<|map\[|std::(\w+::)*(pair|tuple)<)")
 
 
 def value_of(value, depth):
-    """What a variable, a member or an element holds. "?" if that isn't compared."""
+    """The same. "?" if that isn't compared."""
     kind = value.type.strip_typedefs()
     if depth == 0 or PLAIN.match(kind.name or ""):
         return "?"
@@ -47,6 +50,8 @@ def value_of(value, depth):
         return by_printer(value, printer, depth - 1)
     if kind.code in STRUCTURES and re.match(r"std::(\w+::)*array<", kind.name or ""):
         return part(value["_M_elems"], depth)
+    if kind.code in STRUCTURES and (kind.name or "").startswith("alloc::boxed::Box<["):
+        return {"list": [part(value["data_ptr"][place], depth - 1) for place in range(min(int(value["length"]), ELEMENTS))]}
     if kind.code in STRUCTURES:
         fields = [field for field in kind.fields() if hasattr(field, "bitpos") and field.name]
         return {"members": {field.name.split("::")[-1]: "?" if field.is_base_class else part(value[field], depth - 1)
@@ -57,8 +62,24 @@ def value_of(value, depth):
     return variables.plain(value)
 
 
-def part(value, depth=DEPTH):
-    """The same. None if gdb can't read it."""
+def whole(value):
+    """What a variable holds. "?" if gdb takes too long: some of its pretty-printers go round in memory that isn't what
+    they take it for."""
+    signal.alarm(SECONDS)
+    try:
+        return part(value, DEPTH)
+    except TimeoutError:
+        return "?"
+    finally:
+        signal.alarm(0)
+
+
+def too_long(*_):
+    raise TimeoutError
+
+
+def part(value, depth):
+    """What a variable, a member or an element holds. None if gdb can't read it."""
     try:
         return value_of(value, depth)
     except (gdb.error, RuntimeError, OverflowError):
@@ -137,8 +158,9 @@ def stop(asked, load, number):
         variables.write_state(path, frames[0], list(writable()))
         line = ["vars", "--json", "--depth", "16", "--load", hex(load), "--state", path, asked["program"], hex(address)]
     ran = subprocess.run([asked["dwcheck_elf"]] + line, capture_output=True, text=True)
-    theirs = [one for place, each in enumerate(reversed(frames)) for one in variables.variables(each, place, part)]
+    theirs = [one for place, each in enumerate(reversed(frames)) for one in variables.variables(each, place, whole)]
     return {"address": address, "core": path, "variables": theirs, "ours": ran.stdout, "error": ran.stderr}
 
 
+signal.signal(signal.SIGALRM, too_long)
 variables.in_gdb(stop)

@@ -75,9 +75,10 @@ def pair_of(value, depth):
 
 
 def owner_of(value, name, depth):
-    pointer = value.GetChildAtIndex(0)
-    if name == "shared_ptr":
-        pointer = value.GetNonSyntheticValue().GetChildMemberWithName("__ptr_")
+    pointer = value.GetNonSyntheticValue().GetChildMemberWithName("__ptr_")
+    if name == "unique_ptr":
+        # LLDB 14 shows 0 if the deleter isn't empty: the first of a pair is in the first base.
+        pointer = pointer.GetChildAtIndex(0).GetChildMemberWithName("__value_")
     address = pointer.GetValueAsUnsigned()
     kind = value.GetType().GetCanonicalType().GetTemplateArgumentType(0)
     found = {"owner": hex(address), "value": value_of(pointer.Dereference(), depth) if address else "?"}

@@ -17,8 +17,8 @@ def unescaped(text):
         word = found[1]
         if word.startswith("u{"):
             return chr(int(word[2:-1], 16))
-        return chr(int(word[1:], 16)) if word.startswith("x") else ESCAPES.get(word, word)
-    return re.sub(r"\\(u\{[0-9a-f]+\}|x[0-9a-f]{2}|.)", one, text, flags=re.S)
+        return chr(int(word[1:], 16)) if word[0] in "xU" and len(word) > 1 else ESCAPES.get(word, word)
+    return re.sub(r"\\(u\{[0-9a-f]+\}|x[0-9a-f]{2}|U[0-9a-f]{8}|.)", one, text, flags=re.S)
 
 
 def same_text(theirs, ours):
@@ -62,6 +62,9 @@ def same(theirs, ours):
     """Whether both say the same, as far as the debugger has a value."""
     if theirs is None or theirs == "?" or is_plain(theirs, ours):
         return True
+    if ours is None:
+        # Of a variable in pieces, gdb shows 0 for those that aren't there.
+        return theirs in ("0", "0x0", "false")
     if not isinstance(theirs, dict):
         return variables.same(theirs, ours)
     if "text" in theirs or "escaped" in theirs:
@@ -69,7 +72,10 @@ def same(theirs, ours):
     if "list" in theirs:
         if isinstance(ours, str) and ours.startswith('"'):
             return True
-        return isinstance(ours, list) and len(ours) == len(theirs["list"]) and all(map(same, theirs["list"], ours))
+        read = theirs["list"]
+        if read and read[-1] == "inaccessible":  # rust-gdb ends at the first element that it can't read
+            read, ours = read[:-1], ours[:len(read) - 1] if isinstance(ours, list) else ours
+        return isinstance(ours, list) and len(ours) == len(read) and all(map(same, read, ours))
     if "map" in theirs:
         return same_map(theirs["map"], ours)
     if "owner" in theirs:
@@ -105,6 +111,8 @@ def classify(theirs, one):
         return "neither" if ours is None else "only dwcheck-elf"
     if ours is None:
         return "not evaluated: " + re.sub(r"0x[0-9a-f]+", "..", str(one["missing"]))
+    if isinstance(ours, dict) and "points_to" in ours or isinstance(ours, str) and ours.startswith("points to "):
+        return "implicit pointer"
     if is_plain(theirs, ours):
         return "plain structure"
     if same(theirs, ours):

@@ -10,6 +10,7 @@ use crate::output::{check_output_apart, Output};
 use crate::pool::start_threads;
 use dwcheck_elf::fetch::Fetcher;
 use dwcheck_elf::text::Escaped;
+use dwcheck_profile::focus::Focus;
 use dwcheck_profile::script::ScriptOptions;
 use dwcheck_profile::{firefox, folded, html, pprof, script, speedscope, top};
 use dwcheck_profile::{Damage, Event, NameOptions, Names, Options, Profile, Recording, SearchPaths};
@@ -35,11 +36,16 @@ pub fn profile(arguments: &ProfileArguments, out: &mut impl Write) -> Result<Don
     start_threads(arguments.jobs)?;
     let fetcher = fetcher(arguments.debuginfod);
     let old = arguments.compare.as_deref().map(|path| read_recording(arguments, path, &fetcher)).transpose()?;
-    let new = read_recording(arguments, &arguments.recording, &fetcher)?;
+    let mut new = read_recording(arguments, &arguments.recording, &fetcher)?;
     note_problems(&fetcher);
-    let write = |out: &mut dyn Write| match &old {
-        Some(old) => compare::write_compared(arguments, old, &new, out),
-        None => write_profile(arguments, &new.0, &new.1, out),
+    let focus = arguments.focus.as_deref().map(|name| focus_on(name, arguments, &mut new)).transpose()?;
+    let write = |out: &mut dyn Write| match (&old, &focus) {
+        (Some(old), _) => compare::write_compared(arguments, old, &new, out),
+        (None, Some(focus)) if arguments.format == Format::Top => {
+            let event = new.0.sampled_events().first().copied().unwrap_or(0);
+            Ok(focus.write(&new.0, &new.1, event, arguments.rows, &mut { out })?)
+        }
+        _ => write_profile(arguments, &new.0, &new.1, out),
     };
     match &arguments.output {
         None => write(out)?,
@@ -84,6 +90,22 @@ fn read_recording(arguments: &ProfileArguments, path: &Path, fetcher: &Fetcher) 
     });
     check_event_name(arguments, path, &profile.events)?;
     Ok((profile, names))
+}
+
+/// The function that is asked for. But for --format top, samples without it are left out.
+fn focus_on(
+    name: &str,
+    arguments: &ProfileArguments,
+    (profile, names): &mut (Profile, Names),
+) -> Result<Focus, Failure> {
+    let focus = Focus::of(profile, names, name);
+    let focus = focus.ok_or_else(|| {
+        Failure::Argument(format!("bad argument: --focus {}: no stack has this function", Escaped(name)))
+    })?;
+    if arguments.format != Format::Top {
+        focus.keep(profile);
+    }
+    Ok(focus)
 }
 
 /// Refuses an event that wasn't recorded. A recording that comes through a pipe has no events until it is read.

@@ -20,6 +20,7 @@ mod collect;
 pub mod compared;
 mod error;
 pub mod firefox;
+pub mod focus;
 pub mod folded;
 mod frame_names;
 mod frames;

@@ -102,6 +102,10 @@ pub struct ProfileArguments {
     /// error says
     #[arg(long, value_name = "NAME")]
     pub event: Option<String>,
+    /// Only stacks with this function, named as it is shown or without its parameters. With --format top: what it weighs,
+    /// its callers, and what it calls
+    #[arg(long, value_name = "FUNCTION", conflicts_with = "compare")]
+    pub focus: Option<String>,
     /// Leave out inlined functions
     #[arg(long)]
     pub no_inline: bool,

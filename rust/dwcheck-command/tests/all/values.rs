@@ -266,3 +266,42 @@ fn pointers_are_followed_and_circles_are_cut() {
     // A function is no object.
     assert!(two.iter().any(|line| line.contains("call: int () * = 0x")), "{:?}", two);
 }
+
+const CONVERTED: &str = "
+__attribute__((noipa)) double keep(double x) { return x * 2; }
+__attribute__((noinline)) double work(int n, unsigned u, float f) {
+    long wide = n, sum = wide * 3;
+    unsigned long large = u;
+    unsigned char low = n;
+    short cut = u;
+    double half = n * 0.5;
+    double kept = keep(n) + keep(u);
+    if (kept != 1) *(volatile int *)16 = 1;
+    return kept + n + u + keep(f);
+}
+int main(int argc, char **argv) { return work(-argc - 299, 3000000000u + argc, 2.5f * argc); }
+";
+
+/// The compilers keep no place for these variables, and describe them by others, as values of other types.
+#[test]
+fn values_of_other_types_are_converted() {
+    let folder = Folder::new("values-converted");
+    if !may_trace() || !has("clang") {
+        return;
+    }
+    folder.write("a.c", CONVERTED);
+    let compilers = [
+        ("gcc -O2", "DW_OP_deref_type", &["half", "large"][..]),
+        ("clang -O1", "DW_OP_convert", &["wide", "sum", "large", "low", "cut"][..]),
+    ];
+    for (compiler, operation, names) in compilers {
+        folder.run(&format!("{} -w -g a.c -o program", compiler));
+        assert!(folder.run("readelf --debug-dump=info,loc program 2> /dev/null").contains(operation));
+        folder.crash("./program");
+        let (theirs, ours) = (by_gdb(&folder, &["info locals"]), values(&folder));
+        for name in names {
+            let number = |lines: &[String]| value(lines, name).split(' ').next().unwrap().to_string();
+            assert_eq!(number(&ours), number(&theirs), "{}: {}: {:#?}", compiler, name, theirs);
+        }
+    }
+}

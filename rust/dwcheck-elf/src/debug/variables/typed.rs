@@ -27,12 +27,22 @@ impl<'v, 'a> Locator<'v, 'a> {
         expression: &[u8],
         first: Unsupported,
     ) -> Result<ValueLocation, Missing> {
-        let order = self.variables.target.gimli_order();
-        let mut evaluation = Expression(EndianSlice::new(expression, order)).evaluation(die.unit.encoding());
+        let expression = Expression(EndianSlice::new(expression, self.variables.target.gimli_order()));
+        match self.run_typed(Typed { die, first, words_are_generic: false }, expression) {
+            // clang has constants without a type beside values of 64 bits.
+            Err(why) if why == UNTYPED && !depends_on_sign(expression, die) => {
+                self.run_typed(Typed { die, first, words_are_generic: true }, expression)
+            }
+            found => found,
+        }
+    }
+
+    fn run_typed(&self, typed: Typed<'_, 'v, 'a>, expression: Expression<Slice<'_>>) -> Result<ValueLocation, Missing> {
+        let mut evaluation = expression.evaluation(typed.die.unit.encoding());
         evaluation.set_max_iterations(MAX_OPERATIONS);
         let mut state = evaluation.evaluate().map_err(|_| UNTYPED)?;
         while state != EvaluationResult::Complete {
-            state = self.resume(die, &mut evaluation, state, first)?;
+            state = self.resume(typed, &mut evaluation, state)?;
         }
         let pieces = evaluation.result();
         match pieces.as_slice() {
@@ -46,21 +56,20 @@ impl<'v, 'a> Locator<'v, 'a> {
     /// Gives an evaluation what it asks for.
     fn resume<'e>(
         &self,
-        die: &Die<'v, 'a>,
+        typed: Typed<'_, 'v, 'a>,
         evaluation: &mut Evaluation<Slice<'e>>,
         asked: EvaluationResult<Slice<'e>>,
-        first: Unsupported,
     ) -> Result<EvaluationResult<Slice<'e>>, Missing> {
         use EvaluationResult as Asked;
         match asked {
             Asked::RequiresMemory { address, size, space: None, base_type } => {
                 let bytes = self.machine.memory(address, size.into())?;
-                evaluation.resume_with_memory(self.value_of_bytes(die, base_type, &bytes)?)
+                evaluation.resume_with_memory(self.value_of_bytes(typed.value_type(base_type)?, &bytes)?)
             }
             Asked::RequiresRegister { register, base_type } => {
                 let value = self.machine.registers.get(register.0);
                 let value = value.ok_or_else(|| Missing::Unreadable(format!("r{}", register.0)))?;
-                evaluation.resume_with_register(self.value_of_register(die, base_type, value)?)
+                evaluation.resume_with_register(value_of_register(typed.value_type(base_type)?, value)?)
             }
             Asked::RequiresFrameBase => {
                 evaluation.resume_with_frame_base(self.frame_base().ok_or_else(|| unreadable("frame base"))?)
@@ -74,12 +83,12 @@ impl<'v, 'a> Locator<'v, 'a> {
             }
             Asked::RequiresRelocatedAddress(address) => evaluation.resume_with_relocated_address(self.loaded(address)),
             Asked::RequiresIndexedAddress { index, relocate } => {
-                let address = self.variables.units.dwarf.address(&die.unit, index);
+                let address = self.variables.units.dwarf.address(&typed.die.unit, index);
                 let address = address.map_err(|_| Missing::Refused("NoSuchAddress"))?;
                 evaluation.resume_with_indexed_address(if relocate { self.loaded(address) } else { address })
             }
-            Asked::RequiresBaseType(kind) => evaluation.resume_with_base_type(value_type(die, kind)?),
-            _ => return Err(Missing::NotEvaluated(first)),
+            Asked::RequiresBaseType(kind) => evaluation.resume_with_base_type(typed.value_type(kind)?),
+            _ => return Err(Missing::NotEvaluated(typed.first)),
         }
         .map_err(|error| if error == gimli::Error::DivisionByZero { Missing::DivisionByZero } else { UNTYPED })
     }
@@ -89,22 +98,11 @@ impl<'v, 'a> Locator<'v, 'a> {
     }
 
     /// The value that bytes of memory are.
-    fn value_of_bytes(&self, die: &Die<'v, 'a>, kind: UnitOffset<usize>, bytes: &[u8]) -> Result<Value, Missing> {
+    fn value_of_bytes(&self, kind: ValueType, bytes: &[u8]) -> Result<Value, Missing> {
         let target = self.variables.target;
-        match value_type(die, kind)? {
+        match kind {
             ValueType::Generic => Ok(Value::Generic(target.number(bytes))),
             kind => Value::parse(kind, EndianSlice::new(bytes, target.gimli_order())).map_err(|_| UNTYPED),
-        }
-    }
-
-    /// The value that the low bytes of a register are.
-    fn value_of_register(&self, die: &Die<'v, 'a>, kind: UnitOffset<usize>, value: u64) -> Result<Value, Missing> {
-        match value_type(die, kind)? {
-            ValueType::Generic => Ok(Value::Generic(value)),
-            kind => {
-                let bytes = value.to_le_bytes();
-                Value::parse(kind, EndianSlice::new(&bytes, gimli::RunTimeEndian::Little)).map_err(|_| UNTYPED)
-            }
         }
     }
 
@@ -133,23 +131,63 @@ fn unreadable(what: &str) -> Missing {
     Missing::Unreadable(what.to_string())
 }
 
-/// The type at an offset of a unit. Characters and truth values are numbers without a fraction.
-fn value_type(die: &Die<'_, '_>, kind: UnitOffset<usize>) -> Result<ValueType, Missing> {
-    if kind == GENERIC {
-        return Ok(ValueType::Generic);
+/// The value that the low bytes of a register are.
+fn value_of_register(kind: ValueType, value: u64) -> Result<Value, Missing> {
+    match kind {
+        ValueType::Generic => Ok(Value::Generic(value)),
+        kind => {
+            let bytes = value.to_le_bytes();
+            Value::parse(kind, EndianSlice::new(&bytes, gimli::RunTimeEndian::Little)).map_err(|_| UNTYPED)
+        }
     }
-    let base = Die { offset: kind, ..die.clone() };
-    let size = base.attribute(gimli::DW_AT_byte_size).and_then(|size| size.udata_value()).ok_or(UNTYPED)?;
-    let encoding = match base.attribute(gimli::DW_AT_encoding) {
-        Some(AttributeValue::Encoding(encoding)) if base.tag() == Some(gimli::DW_TAG_base_type) => encoding,
-        _ => return Err(UNTYPED),
-    };
-    let encoding = match encoding {
-        gimli::DW_ATE_signed_char => gimli::DW_ATE_signed,
-        gimli::DW_ATE_unsigned_char | gimli::DW_ATE_boolean | gimli::DW_ATE_UTF => gimli::DW_ATE_unsigned,
-        encoding => encoding,
-    };
-    ValueType::from_encoding(encoding, size).ok_or(UNTYPED)
+}
+
+/// An expression of an entry's unit.
+#[derive(Clone, Copy)]
+struct Typed<'d, 'v, 'a> {
+    die: &'d Die<'v, 'a>,
+    /// The first operation that `dwcheck` doesn't know.
+    first: Unsupported,
+    /// Whether numbers of an address's size are taken to be without a type.
+    words_are_generic: bool,
+}
+
+impl Typed<'_, '_, '_> {
+    /// The type at an offset of the unit. Characters and truth values are numbers without a fraction.
+    fn value_type(&self, kind: UnitOffset<usize>) -> Result<ValueType, Missing> {
+        if kind == GENERIC {
+            return Ok(ValueType::Generic);
+        }
+        let base = Die { offset: kind, ..self.die.clone() };
+        let size = base.attribute(gimli::DW_AT_byte_size).and_then(|size| size.udata_value()).ok_or(UNTYPED)?;
+        let encoding = match base.attribute(gimli::DW_AT_encoding) {
+            Some(AttributeValue::Encoding(encoding)) if base.tag() == Some(gimli::DW_TAG_base_type) => encoding,
+            _ => return Err(UNTYPED),
+        };
+        let encoding = match encoding {
+            gimli::DW_ATE_signed_char => gimli::DW_ATE_signed,
+            gimli::DW_ATE_unsigned_char | gimli::DW_ATE_boolean | gimli::DW_ATE_UTF => gimli::DW_ATE_unsigned,
+            encoding => encoding,
+        };
+        let is_word = size == u64::from(self.die.unit.encoding().address_size) && encoding != gimli::DW_ATE_float;
+        match is_word && self.words_are_generic {
+            true => Ok(ValueType::Generic),
+            false => ValueType::from_encoding(encoding, size).ok_or(UNTYPED),
+        }
+    }
+}
+
+/// Whether an expression has operations whose results aren't the same for numbers with and without a sign.
+fn depends_on_sign(expression: Expression<Slice<'_>>, die: &Die<'_, '_>) -> bool {
+    use gimli::Operation::{Div, Ge, Gt, Le, Lt, Mod, Shr, Shra};
+    let mut operations = expression.operations(die.unit.encoding());
+    loop {
+        match operations.next() {
+            Ok(Some(Div | Ge | Gt | Le | Lt | Mod | Shr | Shra)) | Err(_) => return true,
+            Ok(Some(_)) => {}
+            Ok(None) => return false,
+        }
+    }
 }
 
 /// The bits of a value, of which those of a variable's size count.

@@ -143,6 +143,7 @@ impl<'v, 'a> Locator<'v, 'a> {
         let shown = self.shown(count, inner, *left);
         if shown > 0 {
             self.machine.memory(first, 1).ok()?;
+            self.machine.memory(first + (shown as u64 * size - 1), 1).ok()?;
         }
         let mut elements = Vec::new();
         for index in 0..shown as u64 {
