@@ -18,14 +18,14 @@ pub struct Side<'p> {
     pub event: usize,
 }
 
-/// A function of either profile. Functions with the same name, and of files with the same name, are one.
+/// A function of either profile. Functions with the same name are one, since a build may have another file.
 #[derive(Clone, Debug, PartialEq, Eq)]
 pub struct Function {
     /// Its name, and after it the line if there is one.
     pub name: String,
-    /// The name of its file without folders.
+    /// The name of its file without folders, in the new profile if it is there.
     pub object: String,
-    /// What it is where it was found first.
+    /// What it is there.
     pub code: Code,
 }
 
@@ -41,7 +41,7 @@ pub struct Compared {
     pub nodes: Vec<Call>,
     /// What each node weighs by itself in the old profile and in the new one.
     pub own: Vec<[u64; SIDES]>,
-    function_ids: FxHashMap<(String, String), u32>,
+    function_ids: FxHashMap<String, u32>,
     node_ids: FxHashMap<Call, u32>,
 }
 
@@ -86,12 +86,13 @@ impl Compared {
         }
     }
 
-    /// The index of a function, which is added if it isn't there.
+    /// The index of a function, which replaces the one of the other profile.
     fn function(&mut self, function: Function) -> u32 {
         let next = self.functions.len() as u32;
-        let id = *self.function_ids.entry((function.name.clone(), function.object.clone())).or_insert(next);
-        if id == next {
-            self.functions.push(function);
+        let id = *self.function_ids.entry(function.name.clone()).or_insert(next);
+        match self.functions.get_mut(id as usize) {
+            Some(known) => *known = function,
+            None => self.functions.push(function),
         }
         id
     }
