@@ -186,6 +186,7 @@ fn work(n: i32) {
     let shared = Rc::new(5);
     let (other, weak) = (shared.clone(), Rc::downgrade(&shared));
     let counted = Arc::new(String::from(\"counted\"));
+    let any: Rc<dyn std::fmt::Debug> = Rc::new(7);
     let mut ages: HashMap<u8, i32> = HashMap::new();
     ages.insert(7, 30);
     let mut keys: HashSet<u16> = HashSet::new();
@@ -223,4 +224,6 @@ fn containers_of_rust_hold_what_the_source_says() {
         ("keys", "{9}"),
     ];
     expected.iter().for_each(|(name, shown)| assert_eq!(value(&ours, name), *shown, "{}", name));
+    // Where the value is isn't said by the type.
+    assert!(value(&ours, "any").starts_with("{ptr = "), "{:#?}", ours);
 }

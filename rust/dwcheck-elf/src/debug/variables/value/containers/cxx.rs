@@ -1,7 +1,9 @@
 //! Which containers of C++ are known, by their names: those of libstdc++ and of libc++.
 
-use super::fields::Field;
+use super::fields::{template_type, Field};
 use super::{libcxx, libstdcxx, Layout};
+use crate::debug::variables::scopes::die_id;
+use crate::debug::variables::types::{type_of, unqualified_type};
 
 /// What keys have in a container.
 #[derive(Clone, Copy, Debug, PartialEq, Eq)]
@@ -20,7 +22,7 @@ pub(super) fn layout<'v, 'a>(name: &str, whole: &Field<'v, 'a>) -> Option<Layout
         "basic_string" => both(libstdcxx::string(whole), &|| libcxx::string(whole)),
         "basic_string_view" => both(libstdcxx::string_view(whole), &|| libcxx::string_view(whole)),
         "vector" => both(libstdcxx::vector(whole), &|| libcxx::vector(whole)),
-        "array" => whole.member("_M_elems").or_else(|| whole.member("__elems_")).map(Layout::Only),
+        "array" => array(whole),
         "optional" => both(libstdcxx::optional(whole), &|| libcxx::optional(whole)),
         "variant" => both(libstdcxx::variant(whole), &|| libcxx::variant(whole)),
         "unique_ptr" => both(libstdcxx::unique_ptr(whole), &|| libcxx::unique_ptr(whole)),
@@ -35,4 +37,13 @@ pub(super) fn layout<'v, 'a>(name: &str, whole: &Field<'v, 'a>) -> Option<Layout
         }
         _ => None,
     }
+}
+
+/// `std::array`. One without elements has bytes of another type in their place.
+fn array<'v, 'a>(whole: &Field<'v, 'a>) -> Option<Layout<'v, 'a>> {
+    let elements = whole.member("_M_elems").or_else(|| whole.member("__elems_"))?;
+    let row = unqualified_type(&elements.kind).filter(|row| row.tag() == Some(gimli::DW_TAG_array_type))?;
+    let element = unqualified_type(&type_of(&row)?)?;
+    let wanted = unqualified_type(&template_type(&whole.kind, "_Tp")?)?;
+    (die_id(&element) == die_id(&wanted)).then_some(Layout::Only(elements))
 }

@@ -87,9 +87,9 @@ fn go_slice<'v, 'a>(whole: &Field<'v, 'a>) -> Option<Layout<'v, 'a>> {
     Some(Layout::Row(Row { first, length, room, element }))
 }
 
-/// `Rc` and `Arc`: the counts are beside the value.
+/// `Rc` and `Arc`: the counts are beside the value. Of one whose size only the process knows, the pointer is a structure.
 fn shared<'v, 'a>(whole: &Field<'v, 'a>) -> Option<Layout<'v, 'a>> {
-    let control = unwrapped(&whole.member("ptr")?, &["pointer"]).filter(Field::is_pointer)?;
+    let control = whole.path(&["ptr", "pointer"]).filter(Field::is_pointer)?;
     let block = Field::whole(&control.target()?);
     let value = block.member("value").or_else(|| block.member("data"))?;
     let count = |name: &str| unwrapped(&block.member(name)?, &["value", "v"]);
