@@ -100,7 +100,8 @@ def by_printer(value, printer, depth):
         # Of elements, the number isn't known.
         return owner_of(parts[0][1], depth) if "[]" not in printer.to_string() else {"owner": hex(int(parts[0][1]))}
     if name == "SharedPointerPrinter":
-        counts = re.search(r"use count (\d+), weak count (\d+)", printer.to_string())
+        shown = printer.to_string().replace("expired", "use count 0")
+        counts = re.search(r"use count (\d+), weak count (\d+)", shown)
         found = owner_of(parts[0][1], depth)
         return dict(found, uses=int(counts[1]), weak=int(counts[2])) if counts else found
     if name == "StdRcProvider":

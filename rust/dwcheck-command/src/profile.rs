@@ -132,8 +132,8 @@ fn write_profile(
         Format::Folded => folded::write_folded(profile, names, event, out)?,
         Format::Script => script::write_script(profile, names, ScriptOptions { stops: arguments.stops }, out)?,
         Format::Html => {
-            let events = if events.is_empty() { &[event][..] } else { &events };
-            html::write_html(profile, names, events, &profile_title(arguments, profile), out)?
+            let (only, title) = ([event], profile_title(arguments, profile));
+            html::write_html(profile, names, if events.is_empty() { &only } else { &events }, &title, out)?
         }
         Format::Speedscope => speedscope::write_speedscope(profile, names, event, out)?,
         Format::Pprof => pprof::write_pprof(profile, names, out)?,

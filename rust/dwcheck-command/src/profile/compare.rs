@@ -40,8 +40,7 @@ pub fn write_compared(
         Format::Folded => folded::write_folded_compared(old, new, out)?,
         Format::Top => top::write_top_compared(&Compared::of(old, new), now, arguments.rows, out)?,
         _ => {
-            let path = |path| shown_path(path);
-            let before = arguments.compare.as_deref().map_or_else(String::new, path);
+            let before = arguments.compare.as_deref().map_or_else(String::new, shown_path);
             let title = format!("{} compared with {}", shown_path(&arguments.recording), before);
             let unit = new.profile.is_in_nanoseconds(new.event);
             html::write_html_compared(&Compared::of(old, new), (now, unit), &title, out)?
