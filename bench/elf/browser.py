@@ -22,16 +22,17 @@ def chromium(size, *words):
     return ran.stdout
 
 
-def use(page, script, size, screenshot=None):
+def use(page, script, size, screenshot=None, address=""):
     """Runs `script` in the page, in a window of this size, and returns what it stored in `said`. With
-    `screenshot`, a picture of the page as it is after that is written to this file."""
+    `screenshot`, a picture of the page as it is after that is written to this file. `address` is what follows
+    the page's own, such as `#search=main`."""
     with tempfile.TemporaryDirectory() as folder:
         used = os.path.join(folder, "used.html")
         with open(page) as file, open(used, "w") as out:
             out.write(file.read().replace("</body>", f"<script>\nconst said = {{}};\n{script}{END}"))
-        text = chromium(size, "--dump-dom", "file://" + used)
+        text = chromium(size, "--dump-dom", "file://" + used + address)
         if screenshot:
-            chromium(size, f"--screenshot={screenshot}", "file://" + used)
+            chromium(size, f"--screenshot={screenshot}", "file://" + used + address)
     said = re.search(r'<pre id="said">(.*?)</pre>', text, re.S)
     if said is None:
         sys.exit("the page's script didn't run to its end")

@@ -5,8 +5,9 @@
 
 The page is that of a recording of spin.c (rust/dwcheck-command/tests/recordings). A click on a function has
 to give it the whole width, a search has to mark what it names, `inverted` has to put what ran at the top,
-and a time range has to leave out the samples before and after it. Needs chromium. The last line is `ok`,
-or the exit status is 1.
+and a time range has to leave out the samples before and after it. The address that the page has then is opened
+again, and has to show the same. Of two recordings that are compared, what only the old one has has to be blue.
+Needs chromium. The last line is `ok`, or the exit status is 1.
 """
 import argparse
 import os
@@ -63,6 +64,23 @@ said.reset = shown.total[0] === whole && at("search").value === "";
 """
 
 
+# Zooms and searches; and what can be seen of that, also in a page that is opened by its address.
+LINK = """
+boxes.filter(box => label(box[3]) === "middle").forEach(box => { view.focus = box[3]; });
+at("search").value = "leaf"; at("search").dispatchEvent(new Event("input"));
+"""
+SEEN = """
+said.seen = [label(view.focus), at("found").textContent, boxes.map(box => label(box[3]))];
+said.hash = window.location.hash;
+"""
+COMPARED = """
+at("side").value = "old"; at("side").dispatchEvent(new Event("change"));
+const [x, y] = boxes.find(box => label(box[3]) === "middle"), scale = window.devicePixelRatio || 1;
+said.pixel = [...at("stacks").getContext("2d").getImageData((x + 99) * scale, (y + 2) * scale, 1, 1).data];
+said.tip = described(boxes.find(box => label(box[3]) === "middle")[3]);
+"""
+
+
 def main():
     parser = argparse.ArgumentParser(description=__doc__.split("\n\n", maxsplit=1)[0])
     parser.add_argument("program")
@@ -74,6 +92,11 @@ def main():
         command = [words.program, "profile", "-q", "--root", RECORDINGS, "--format", "html", "-o", page, recording]
         subprocess.run(command, check=True)
         said = use(page, ACTIONS, "1100,420", words.screenshot)
+        first = use(page, LINK + SEEN, "1100,420")
+        again = use(page, SEEN, "1100,420", address=first["hash"])
+        other = os.path.join(RECORDINGS, "chain.perf")
+        subprocess.run(command[:-1] + ["--compare", recording, other], check=True)
+        compared = use(page, COMPARED, "1100,420")
     finish(said, {
         "functions": said["first"] == ["all", "_start", "main", "middle", "twice", "leaf"],
         "title": said["title"].endswith("./spin"),
@@ -87,6 +110,9 @@ def main():
         "Escape": said["escaped"],
         "Ctrl-F": said["focused"],
         "show all": said["reset"],
+        "a link": first == again and first["seen"][:2] == ["middle", "found in 100.00%"],
+        "less is blue": compared["pixel"][2] > compared["pixel"][0] + 50,
+        "two recordings": "100.00% before, 0.00% now (-100.00)" in compared["tip"],
     })
 
 

@@ -101,7 +101,7 @@ def part(value, depth):
         return None
 
 
-def variables(frame, depth):
+def variables(frame, depth, value_of=plain):
     """The variables of a frame by gdb: the number of the function, the name and the value."""
     found = []
     try:
@@ -113,7 +113,7 @@ def variables(frame, depth):
             if not (symbol.is_argument or symbol.is_variable) or symbol.addr_class == gdb.SYMBOL_LOC_TYPEDEF:
                 continue
             try:
-                value = plain(symbol.value(frame))
+                value = value_of(symbol.value(frame))
             except (gdb.error, OverflowError, TypeError, ValueError):
                 value = None
             found.append([depth, symbol.name, value])
@@ -156,8 +156,8 @@ def own_data(program):
     return [bounds for bounds, rights, _ in ranges if "w" in rights], load
 
 
-def in_gdb():
-    """Stops the program at instructions, and writes what gdb knows there."""
+def in_gdb(stop):
+    """Stops the program at instructions, and writes what `stop` says of each of them."""
     with open(os.environ["VARIABLES_PY"]) as file:
         asked = json.load(file)
     asked["drawn"] = set(asked["places"])
@@ -165,14 +165,14 @@ def in_gdb():
         gdb.execute("set " + line)
     stops, runs = [], 0
     while asked["places"] and len(stops) < asked["stops"] and runs < RUNS:
-        run(asked, stops)
+        run(asked, stops, stop)
         runs += 1
     with open(os.path.join(asked["folder"], "stops"), "w") as file:
         json.dump(stops, file)
 
 
-def run(asked, stops):
-    """Runs the program once, and adds what gdb knows where it stops."""
+def run(asked, stops, stop):
+    """Runs the program once, and adds what `stop` says where it stops."""
     gdb.execute("starti " + " ".join(asked["arguments"]), to_string=True)
     load = own_data(asked["program"])[1] if asked["pie"] else 0
     waiting = []
@@ -196,12 +196,18 @@ def run(asked, stops):
         gdb.execute("kill", to_string=True)
 
 
-def stop(asked, load, number):
-    """What gdb knows where the program is, with a state file."""
-    frame = gdb.newest_frame()
-    frames = [frame]
+def frames_there():
+    """The frames where the program is: of functions that are inlined there, and of the one that has them."""
+    frames = [gdb.newest_frame()]
     while frames[-1].type() == gdb.INLINE_FRAME:
         frames.append(frames[-1].older())
+    return frames
+
+
+def values_there(asked, load, number):
+    """What gdb knows where the program is, with a state file."""
+    frames = frames_there()
+    frame = frames[0]
     path = os.path.join(asked["folder"], "state%d" % number)
     write_state(path, frame, own_data(asked["program"])[0])
     found = [one for place, each in enumerate(reversed(frames)) for one in variables(each, place)]
@@ -364,7 +370,8 @@ def main():
     sys.exit(1 if counts["DIFFERENT"] or counts["only gdb"] else 0)
 
 
-if gdb:
-    in_gdb()
-elif __name__ == "__main__":
-    main()
+if __name__ == "__main__":
+    if gdb:
+        in_gdb(values_there)
+    else:
+        main()

@@ -124,11 +124,13 @@ fn read(bytes: &[u8], addresses: &[u64]) -> &'static str {
     }
 }
 
-/// Shows the variables at an address, with registers that lead into a small stack.
+/// Shows the variables at an address, with registers that lead into a small stack, whose words are small numbers and
+/// pointers into it.
 fn look_up(program: &Program<'_>, variables: &Variables<'_>, address: u64) {
     const STACK: u64 = 0x7000;
     let registers: Registers = (0..33).map(|number| (number, STACK + 0x100 + 8 * u64::from(number))).collect();
-    let stack: Vec<u8> = (0..4096u32).map(|number| (number / 7) as u8).collect();
+    let word = |number: u64| if number % 3 == 0 { number / 7 } else { STACK + number * 136 % 4096 };
+    let stack: Vec<u8> = (0..512u64).flat_map(|number| word(number).to_le_bytes()).collect();
     let memory = [Block::new(STACK, &stack)];
     let step = |address, is_after_call| Step {
         address,
@@ -145,7 +147,7 @@ fn look_up(program: &Program<'_>, variables: &Variables<'_>, address: u64) {
         file: None,
         thread_pointer: Some(STACK),
     };
-    let functions = variables.at(&frame, Shape { depth: 3, ..Shape::default() });
+    let functions = variables.at(&frame, Shape { depth: 3, pointers: 3, ..Shape::default() });
     let text: String = functions.iter().map(|function| format!("{}{}", function, function.json())).collect();
     assert!(text.len() < 100_000_000, "{}", text.len());
 }

@@ -158,7 +158,7 @@ fn profile(bytes: &[u8], root: &Path, number: usize) -> Result {
     let written = match format % 7 {
         0 => folded::write_folded(&profile, &names, event, out),
         1 => script::write_script(&profile, &names, ScriptOptions { stops: true }, out),
-        2 => html::write_html(&profile, &names, event, "title", out),
+        2 => html::write_html(&profile, &names, &[event], "title", out),
         3 => speedscope::write_speedscope(&profile, &names, event, out),
         4 => pprof::write_pprof(&profile, &names, out),
         5 => firefox::write_firefox(&profile, &names, event, "title", out),

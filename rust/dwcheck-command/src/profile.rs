@@ -1,5 +1,6 @@
 //! The command `profile`: writes the stacks that perf recorded.
 
+mod compare;
 mod summary;
 
 use crate::arguments::{Format, ProfileArguments};
@@ -9,6 +10,7 @@ use crate::output::{check_output_apart, Output};
 use crate::pool::start_threads;
 use dwcheck_elf::fetch::Fetcher;
 use dwcheck_elf::text::Escaped;
+use dwcheck_profile::focus::Focus;
 use dwcheck_profile::script::ScriptOptions;
 use dwcheck_profile::{firefox, folded, html, pprof, script, speedscope, top};
 use dwcheck_profile::{Damage, Event, NameOptions, Names, Options, Profile, Recording, SearchPaths};
@@ -16,49 +18,67 @@ use indicatif::{ProgressBar, ProgressStyle};
 use std::fs::File;
 use std::io::Write;
 use std::ops::RangeInclusive;
-use std::path::Path;
+use std::path::{Path, PathBuf};
 
 /// Writes the profile of a recording on `out` or to a file, and a summary on standard error.
 pub fn profile(arguments: &ProfileArguments, out: &mut impl Write) -> Result<Done, Failure> {
     if let Some(output) = &arguments.output {
         check_output_apart(
             output,
-            arguments.kallsyms.as_deref().into_iter().chain([path_of_recording(&arguments.recording)]),
+            [&arguments.kallsyms, &arguments.compare]
+                .into_iter()
+                .flatten()
+                .map(PathBuf::as_path)
+                .chain([path_of_recording(&arguments.recording)]),
         )?;
     }
+    compare::check_format(arguments)?;
     start_threads(arguments.jobs)?;
     let fetcher = fetcher(arguments.debuginfod);
-    let (profile, names) = read_recording(arguments, &fetcher)?;
+    let old = arguments.compare.as_deref().map(|path| read_recording(arguments, path, &fetcher)).transpose()?;
+    let mut new = read_recording(arguments, &arguments.recording, &fetcher)?;
     note_problems(&fetcher);
-    check_event_name(arguments, &profile.events)?;
+    let focus = arguments.focus.as_deref().map(|name| focus_on(name, arguments, &mut new)).transpose()?;
+    let write = |out: &mut dyn Write| match (&old, &focus) {
+        (Some(old), _) => compare::write_compared(arguments, old, &new, out),
+        (None, Some(focus)) if arguments.format == Format::Top => {
+            let event = new.0.sampled_events().first().copied().unwrap_or(0);
+            Ok(focus.write(&new.0, &new.1, event, arguments.rows, &mut { out })?)
+        }
+        _ => write_profile(arguments, &new.0, &new.1, out),
+    };
     match &arguments.output {
-        None => write_profile(arguments, &profile, &names, out)?,
+        None => write(out)?,
         Some(path) => {
             let mut output = Output::create(path)?;
-            write_profile(arguments, &profile, &names, output.writer())?;
+            write(output.writer())?;
             output.finish()?;
         }
     }
     out.flush()?;
-    summary::write_summary(arguments, &profile, &names);
-    let done = if profile.damage.is_some() { Done::Unread } else { Done::Accepted };
+    let paths = arguments.compare.iter().chain([&arguments.recording]);
+    let mut done = Done::Accepted;
+    for (path, (profile, names)) in paths.zip(old.iter().chain([&new])) {
+        summary::write_summary(arguments, path, profile, names);
+        done = if profile.damage.is_some() { Done::Unread } else { done };
+    }
     // The program ends now. To free each table and each text before that would only take time.
-    std::mem::forget((profile, names));
+    std::mem::forget((old, new));
     Ok(done)
 }
 
-/// Reads the recording.
-fn read_recording(arguments: &ProfileArguments, fetcher: &Fetcher) -> Result<(Profile, Names), Failure> {
+/// Reads a recording.
+fn read_recording(arguments: &ProfileArguments, path: &Path, fetcher: &Fetcher) -> Result<(Profile, Names), Failure> {
     let options = profile_options(arguments, fetcher)?;
     let kernel = arguments.kallsyms.clone();
     if let Some(path) = &kernel {
         File::open(path).map_err(|error| Failure::reading(path, &error))?;
     }
-    let mut recording = open_recording(&arguments.recording)?;
-    check_event_name(arguments, recording.about().events())?;
+    let mut recording = open_recording(path)?;
+    check_event_name(arguments, path, recording.about().events())?;
     let bar = progress_of_recording(recording.size());
     // This runs in one of the threads, which have stacks of the size that is asked for.
-    Ok(rayon::scope(|_| {
+    let (profile, names) = rayon::scope(|_| {
         let profile = Profile::read(&mut recording, &options, |position| {
             bar.set_position(position);
             true
@@ -67,18 +87,36 @@ fn read_recording(arguments: &ProfileArguments, fetcher: &Fetcher) -> Result<(Pr
         let names =
             Names::read(&profile, &NameOptions { inlined: !arguments.no_inline, lines: arguments.lines, kernel });
         (profile, names)
-    }))
+    });
+    check_event_name(arguments, path, &profile.events)?;
+    Ok((profile, names))
+}
+
+/// The function that is asked for. But for --format top, samples without it are left out.
+fn focus_on(
+    name: &str,
+    arguments: &ProfileArguments,
+    (profile, names): &mut (Profile, Names),
+) -> Result<Focus, Failure> {
+    let focus = Focus::of(profile, names, name);
+    let focus = focus.ok_or_else(|| {
+        Failure::Argument(format!("bad argument: --focus {}: no stack has this function", Escaped(name)))
+    })?;
+    if arguments.format != Format::Top {
+        focus.keep(profile);
+    }
+    Ok(focus)
 }
 
 /// Refuses an event that wasn't recorded. A recording that comes through a pipe has no events until it is read.
-fn check_event_name(arguments: &ProfileArguments, events: &[Event]) -> Result<(), Failure> {
+fn check_event_name(arguments: &ProfileArguments, path: &Path, events: &[Event]) -> Result<(), Failure> {
     let name = match arguments.event.as_ref() {
         Some(name) if !events.is_empty() && events.iter().all(|event| event.name != *name) => name,
         _ => return Ok(()),
     };
     let mut known: Vec<_> = events.iter().map(|event| Escaped(&event.name).to_string()).collect();
     known.dedup();
-    let (name, recording, known) = (Escaped(name), shown_path(&arguments.recording), known.join(", "));
+    let (name, recording, known) = (Escaped(name), shown_path(path), known.join(", "));
     Err(Failure::Argument(format!("bad argument: --event {}: {} has no such event; it has {}", name, recording, known)))
 }
 
@@ -86,13 +124,17 @@ fn write_profile(
     arguments: &ProfileArguments,
     profile: &Profile,
     names: &Names,
-    out: &mut impl Write,
+    mut out: &mut dyn Write,
 ) -> Result<(), Failure> {
-    let event = profile.sampled_events().first().copied().unwrap_or(0);
+    let (events, out) = (profile.sampled_events(), &mut out);
+    let event = events.first().copied().unwrap_or(0);
     match arguments.format {
         Format::Folded => folded::write_folded(profile, names, event, out)?,
         Format::Script => script::write_script(profile, names, ScriptOptions { stops: arguments.stops }, out)?,
-        Format::Html => html::write_html(profile, names, event, &profile_title(arguments, profile), out)?,
+        Format::Html => {
+            let (only, title) = ([event], profile_title(arguments, profile));
+            html::write_html(profile, names, if events.is_empty() { &only } else { &events }, &title, out)?
+        }
         Format::Speedscope => speedscope::write_speedscope(profile, names, event, out)?,
         Format::Pprof => pprof::write_pprof(profile, names, out)?,
         Format::Firefox => firefox::write_firefox(profile, names, event, &profile_title(arguments, profile), out)?,

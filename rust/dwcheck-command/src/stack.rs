@@ -126,7 +126,8 @@ pub fn write_stacks(
     let (inlined, source, raw) = (!arguments.no_inline, !arguments.no_source, arguments.raw_names);
     stacks.show_names(NameOptions { inlined, source, raw });
     if arguments.vars {
-        stacks.show_variables(Shape { depth: arguments.depth, ..Shape::default() }, arguments.registers);
+        let (depth, length, pointers) = (arguments.depth, arguments.elements.into(), arguments.pointers.into());
+        stacks.show_variables(Shape { depth, length, pointers, ..Shape::default() }, arguments.registers);
     }
     if arguments.modules {
         stacks.show_modules();

@@ -28,7 +28,8 @@ const MAX_CALLERS: usize = 16;
 
 /// Writes the functions at the address with their variables, the innermost first.
 pub fn vars(arguments: &VarsArguments, out: &mut impl Write) -> Result<Done, Failure> {
-    let shape = Shape { depth: arguments.depth, ..Shape::default() };
+    let (depth, length, pointers) = (arguments.depth, arguments.elements.into(), arguments.pointers.into());
+    let shape = Shape { depth, length, pointers, ..Shape::default() };
     let mut done = Done::Accepted;
     let functions = match (arguments.pid, &arguments.core, &arguments.program, &arguments.address) {
         (Some(pid), None, None, None) => variables_of_process(arguments, pid, shape)?,

@@ -2,10 +2,12 @@
 //! name and the functions, the outermost first, and what it weighs.
 
 use super::calls::{Called, Calls};
+use super::compared::{Side, SIDES};
 use super::frame_names::Names;
 use super::Profile;
 use rayon::prelude::*;
 use rustc_hash::FxHashMap;
+use std::collections::BTreeMap;
 use std::io::{self, Write};
 
 /// Writes the stacks of an event.
@@ -14,6 +16,27 @@ use std::io::{self, Write};
 ///
 /// Those of `out`.
 pub fn write_folded(profile: &Profile, names: &Names, event: usize, out: &mut impl Write) -> io::Result<()> {
+    let lines = folded_stacks(profile, names, event);
+    lines.into_iter().try_for_each(|(line, weight)| writeln!(out, "{} {}", line, weight))
+}
+
+/// Writes the stacks of an old profile and of a new one with what they weigh in both, as flamegraph.pl takes them.
+///
+/// # Errors
+///
+/// Those of `out`.
+pub fn write_folded_compared(old: Side<'_>, new: Side<'_>, out: &mut impl Write) -> io::Result<()> {
+    let mut both: BTreeMap<String, [u64; SIDES]> = BTreeMap::new();
+    for (index, side) in [old, new].into_iter().enumerate() {
+        for (line, weight) in folded_stacks(side.profile, side.names, side.event) {
+            both.entry(line).or_default()[index] = weight;
+        }
+    }
+    both.into_iter().try_for_each(|(line, [old, new])| writeln!(out, "{} {} {}", line, old, new))
+}
+
+/// The stacks of an event with what they weigh, in the order of their texts.
+fn folded_stacks(profile: &Profile, names: &Names, event: usize) -> Vec<(String, u64)> {
     let calls = Calls::of(profile, names);
     let mut weights: FxHashMap<(u32, u32), u64> = FxHashMap::default();
     for sample in profile.samples_of(event) {
@@ -26,15 +49,12 @@ pub fn write_folded(profile: &Profile, names: &Names, event: usize, out: &mut im
     let mut lines: Vec<(String, u64)> = stacks.par_iter().map(line).collect();
     lines.par_sort_unstable();
     // Functions of the same name, in several objects, are one.
-    let mut rest = lines.as_slice();
-    while let Some((line, _)) = rest.first() {
-        let count = rest.iter().take_while(|(other, _)| other == line).count();
-        let (same, others) = rest.split_at(count);
-        let weight = same.iter().fold(0u64, |sum, (_, weight)| sum.saturating_add(*weight));
-        writeln!(out, "{} {}", line, weight)?;
-        rest = others;
-    }
-    Ok(())
+    lines.dedup_by(|(line, weight), (before, sum)| {
+        let is_same = line == before;
+        *sum = sum.saturating_add(if is_same { *weight } else { 0 });
+        is_same
+    });
+    lines
 }
 
 /// What lines are made of, each text once.

@@ -17,8 +17,10 @@
 mod batch;
 pub mod calls;
 mod collect;
+pub mod compared;
 mod error;
 pub mod firefox;
+pub mod focus;
 pub mod folded;
 mod frame_names;
 mod frames;

@@ -69,9 +69,15 @@ pub struct StackArguments {
     /// Print the parameters and variables of each frame with their values, as far as they are known; not with --group
     #[arg(long)]
     pub vars: bool,
-    /// With --vars: follow structures and arrays this deep
+    /// With --vars: follow structures, arrays and containers this deep
     #[arg(long, value_name = "N", default_value_t = 1, requires = "vars")]
     pub depth: usize,
+    /// With --vars: show this many elements of an array or a container, and characters of a text, at most 10000
+    #[arg(long, value_name = "N", default_value_t = 200, requires = "vars", value_parser = clap::value_parser!(u16).range(1..=10_000))]
+    pub elements: u16,
+    /// With --vars: follow this many pointers to objects, one after another
+    #[arg(long, value_name = "N", default_value_t = 0, requires = "vars", value_parser = clap::value_parser!(u8).range(0..=64))]
+    pub pointers: u8,
     /// Print the stack of several threads once if it is the same
     #[arg(long, conflicts_with = "vars")]
     pub group: bool,
@@ -155,9 +161,15 @@ pub struct VarsArguments {
     pub path: Vec<PathBuf>,
     #[command(flatten)]
     pub debuginfod: DebuginfodArguments,
-    /// Follow structures and arrays this deep, at most 64. What is deeper is {..}
+    /// Follow structures, arrays and containers this deep, at most 64. What is deeper is {..}
     #[arg(long, value_name = "N", default_value_t = 1)]
     pub depth: usize,
+    /// Show this many elements of an array or a container, and characters of a text, at most 10000
+    #[arg(long, value_name = "N", default_value_t = 200, value_parser = clap::value_parser!(u16).range(1..=10_000))]
+    pub elements: u16,
+    /// Follow this many pointers to objects, one after another. An object that leads back to itself is {..} there
+    #[arg(long, value_name = "N", default_value_t = 0, value_parser = clap::value_parser!(u8).range(0..=64))]
+    pub pointers: u8,
     /// Write one document of JSON, whose keys docs/OUTPUT.md lists
     #[arg(long)]
     pub json: bool,

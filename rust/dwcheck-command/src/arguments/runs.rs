@@ -75,6 +75,10 @@ pub struct ProfileArguments {
     /// What perf recorded; - for what `perf record -o -` writes to a pipe
     #[arg(default_value = "perf.data")]
     pub recording: PathBuf,
+    /// Compare with this recording, the older one: top shows the shares of functions in both, those first that changed
+    /// most; html draws greater shares red and smaller ones blue; folded has two weights for each stack
+    #[arg(long, value_name = "OLD")]
+    pub compare: Option<PathBuf>,
     /// What to write
     #[arg(long, value_enum, default_value_t = Format::Folded)]
     pub format: Format,
@@ -98,6 +102,10 @@ pub struct ProfileArguments {
     /// error says
     #[arg(long, value_name = "NAME")]
     pub event: Option<String>,
+    /// Only stacks with this function, named as it is shown or without its parameters. With --format top: what it weighs,
+    /// its callers, and what it calls
+    #[arg(long, value_name = "FUNCTION", conflicts_with = "compare")]
+    pub focus: Option<String>,
     /// Leave out inlined functions
     #[arg(long)]
     pub no_inline: bool,

@@ -7,12 +7,13 @@ use dwcheck_profile::{End, Names, Profile};
 use std::collections::BTreeMap;
 use std::fmt::Write as _;
 use std::io::{self, Write};
+use std::path::Path;
 
 /// The most lines about the same file.
 const MOST_LINES: usize = 3;
 
-/// Writes the summary.
-pub fn write_summary(arguments: &ProfileArguments, profile: &Profile, names: &Names) {
+/// Writes the summary of a recording.
+pub fn write_summary(arguments: &ProfileArguments, path: &Path, profile: &Profile, names: &Names) {
     let mut text = String::new();
     add_problems(profile, names, &mut text);
     if !arguments.quiet {
@@ -23,10 +24,10 @@ pub fn write_summary(arguments: &ProfileArguments, profile: &Profile, names: &Na
     }
     add_hidden_events(arguments, profile, &mut text);
     if let Some(damage) = &profile.damage {
-        let _ = writeln!(text, "dwcheck-elf: {}: {}", shown_path(&arguments.recording), damage);
+        let _ = writeln!(text, "dwcheck-elf: {}: {}", shown_path(path), damage);
     }
     if profile.samples.is_empty() {
-        let _ = writeln!(text, "dwcheck-elf: {}: no samples", shown_path(&arguments.recording));
+        let _ = writeln!(text, "dwcheck-elf: {}: no samples", shown_path(path));
     }
     // If standard error is closed, nobody can read it.
     let _ = io::stderr().write_all(text.as_bytes());
@@ -77,7 +78,12 @@ fn add_stop_reasons(profile: &Profile, text: &mut String) {
 /// Which events aren't shown.
 fn add_hidden_events(arguments: &ProfileArguments, profile: &Profile, text: &mut String) {
     let sampled = profile.sampled_events();
-    if matches!(arguments.format, Format::Script | Format::Pprof) || sampled.len() < 2 {
+    let has_all = match arguments.format {
+        Format::Script | Format::Pprof => true,
+        Format::Html => arguments.compare.is_none(),
+        _ => false,
+    };
+    if has_all || sampled.len() < 2 {
         return;
     }
     let mut names = sampled.iter().map(|event| profile.event_name(*event));

@@ -141,7 +141,7 @@ fn recording(bytes: &[u8], root: &Path) -> bool {
     let mut out = Vec::new();
     folded::write_folded(&profile, &names, event, &mut out).unwrap();
     script::write_script(&profile, &names, ScriptOptions { stops: true }, &mut out).unwrap();
-    html::write_html(&profile, &names, event, "title", &mut out).unwrap();
+    html::write_html(&profile, &names, &[event], "title", &mut out).unwrap();
     speedscope::write_speedscope(&profile, &names, event, &mut out).unwrap();
     pprof::write_pprof(&profile, &names, &mut out).unwrap();
     firefox::write_firefox(&profile, &names, event, "title", &mut out).unwrap();

@@ -9,6 +9,7 @@ mod common;
 
 mod commands;
 mod compare;
+mod containers;
 mod copies_and_marks;
 mod core_file;
 mod crash_files;

@@ -321,3 +321,34 @@ fn names_with_and_without_lines_are_the_same() {
     }
     assert!(with_lines > 0);
 }
+
+/// The stacks of both events are `_start`, `main`, `middle`, `twice` (inlined) and `leaf`, as perf says.
+#[test]
+fn a_function_is_shown_with_its_callers_and_what_it_calls() {
+    let folder = Folder::new("profile-focus");
+    let [root, file] = [recordings(), recordings().join("dwarf.perf")].map(|path| path.to_str().unwrap().to_string());
+    let run = |words: &[&str]| {
+        let all = ["profile", "--quiet", "--root", &root, &file, "--focus"];
+        dwcheck_elf_words(&folder, &[&all[..], words].concat())
+    };
+    let script = std::fs::read_to_string(recordings().join("dwarf.script")).unwrap();
+    let heads = script.lines().filter(|line| line.starts_with("spin"));
+    let weight: u64 = heads.map(|head| head.split_whitespace().nth(3).unwrap().parse::<u64>().unwrap()).sum();
+    let expected = format!(
+        "   self   total  cpu-clock:u {}
+  0.00% 100.00%  middle (spin)
+callers
+        100.00%  main (spin)
+calls
+        100.00%  twice (spin)
+",
+        weight
+    );
+    assert_eq!(run(&["middle", "--format", "top"]).out, expected);
+    let leaf = run(&["leaf", "--format", "top"]).out;
+    assert!(leaf.ends_with("callers\n        100.00%  twice (spin)\ncalls\n        100.00%  none\n"), "{}", leaf);
+    assert_eq!(run(&["middle"]).out, format!("spin;_start;main;middle;twice;leaf {}\n", weight));
+    let other = run(&["nobody"]);
+    assert_eq!((other.status, other.out.as_str()), (2, ""));
+    assert!(other.error.contains("--focus nobody: no stack has this function"), "{}", other.error);
+}

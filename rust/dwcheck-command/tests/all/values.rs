@@ -215,3 +215,93 @@ fn references_and_pointers_to_members() {
     let json = dwcheck_elf(&folder, "vars --json --core core");
     assert!(json.out.contains("\"value\":{\"address\":\"0x") && json.out.contains("\"value\":\"3\"}"), "{}", json.out);
 }
+
+const LINKED: &str = "
+struct node { int value; struct node *next, *self; };
+__attribute__((noinline)) int work(struct node *first, int *number, int (*call)(int)) {
+    int *lost = (int *)16;
+    __builtin_trap();
+    return first->value + *number + *lost + call(1);
+}
+int twice(int n) { return 2 * n; }
+int main(int argc, char **argv) {
+    struct node last = {3, 0, 0}, second = {2, &last, 0}, first = {1, &second, &first};
+    last.next = &first;
+    return work(&first, &argc, twice);
+}
+";
+
+/// gdb writes what is expected, with the addresses and the numbers that it knows.
+#[test]
+fn pointers_are_followed_and_circles_are_cut() {
+    let folder = Folder::new("values-linked");
+    if !may_trace() {
+        return;
+    }
+    folder.write("a.c", LINKED);
+    folder.run("gcc -g a.c -o program");
+    folder.crash("./program");
+    let one = "@%p: {value = %d, next = ";
+    let two = r#"%p, self = 0x0}, self = @%p: {..}}\n", first, first->value, first->next, first->next->value"#;
+    let last = r#"@%p: {..}, self = 0x0}, self = 0x0}, self = @%p: {..}}\n", first, first->value, first->next, first->next->value"#;
+    let commands = [
+        format!(r#"printf "first = {0}{0}{1}, first->next->next, first"#, one, two),
+        format!(
+            r#"printf "first = {0}{0}{0}{1}, first->next->next, first->next->next->value, first, first"#,
+            one, last
+        ),
+        r#"printf "number = @%p: %d\n", number, *number"#.to_string(),
+    ];
+    let theirs = by_gdb(&folder, &commands.iter().map(String::as_str).collect::<Vec<_>>());
+    let theirs: Vec<_> = theirs.iter().filter(|line| line.contains(" = @")).collect();
+    let ours = |options: &str| {
+        let ran = dwcheck_elf(&folder, &format!("vars --core core {}", options));
+        ran.lines().into_iter().map(str::to_string).collect::<Vec<_>>()
+    };
+    let has = |lines: &[String], value: &str| lines.iter().any(|line| line.contains(&format!("{} (", value)));
+    let (two, four) = (ours("--pointers 2"), ours("--pointers 4"));
+    let value = |line: &str| line.split_once(" = ").unwrap().1.to_string();
+    assert!(has(&two, &value(theirs[0])) && has(&four, &value(theirs[1])), "{:?} {:?} {:?}", theirs, two, four);
+    assert!(has(&two, &value(theirs[2])) && has(&two, "@0x10: <unreadable: memory at 0x10>"), "{:?}", two);
+    // A function is no object.
+    assert!(two.iter().any(|line| line.contains("call: int () * = 0x")), "{:?}", two);
+}
+
+const CONVERTED: &str = "
+__attribute__((noipa)) double keep(double x) { return x * 2; }
+__attribute__((noinline)) double work(int n, unsigned u, float f) {
+    long wide = n, sum = wide * 3;
+    unsigned long large = u;
+    unsigned char low = n;
+    short cut = u;
+    double half = n * 0.5;
+    double kept = keep(n) + keep(u);
+    if (kept != 1) *(volatile int *)16 = 1;
+    return kept + n + u + keep(f);
+}
+int main(int argc, char **argv) { return work(-argc - 299, 3000000000u + argc, 2.5f * argc); }
+";
+
+/// The compilers keep no place for these variables, and describe them by others, as values of other types.
+#[test]
+fn values_of_other_types_are_converted() {
+    let folder = Folder::new("values-converted");
+    if !may_trace() || !has("clang") {
+        return;
+    }
+    folder.write("a.c", CONVERTED);
+    let compilers = [
+        ("gcc -O2", "DW_OP_deref_type", &["half", "large"][..]),
+        ("clang -O1", "DW_OP_convert", &["wide", "sum", "large", "low", "cut"][..]),
+    ];
+    for (compiler, operation, names) in compilers {
+        folder.run(&format!("{} -w -g a.c -o program", compiler));
+        assert!(folder.run("readelf --debug-dump=info,loc program 2> /dev/null").contains(operation));
+        folder.crash("./program");
+        let (theirs, ours) = (by_gdb(&folder, &["info locals"]), values(&folder));
+        for name in names {
+            let number = |lines: &[String]| value(lines, name).split(' ').next().unwrap().to_string();
+            assert_eq!(number(&ours), number(&theirs), "{}: {}: {:#?}", compiler, name, theirs);
+        }
+    }
+}

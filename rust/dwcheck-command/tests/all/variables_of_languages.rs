@@ -127,6 +127,7 @@ fn variables_of_go() {
         "param n: int = 4",
         "param p: main.point = {x = 7, y = 2.5}",
         "param flag: bool = true",
+        "param values: []int = {4, 5, 6}",
         "param bytes: [3]uint8 = {1, 2, 250}",
         "var double: int = 8",
         "var half: float32 = 0.5",

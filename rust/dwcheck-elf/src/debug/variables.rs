@@ -12,6 +12,7 @@ mod scopes;
 mod split;
 mod text;
 mod thread_local;
+mod typed;
 mod types;
 mod value;
 mod value_location;
@@ -219,7 +220,7 @@ impl<'a> Variables<'a> {
         name.filter(|_| self.split_at(frame.looked_up()).is_none())
     }
 
-    fn function(&self, scope: &Scope<'_, 'a>, locator: &Locator<'_, 'a>, shape: Shape) -> Function {
+    fn function<'v>(&self, scope: &Scope<'v, 'a>, locator: &Locator<'v, 'a>, shape: Shape) -> Function {
         let variables = scope.variables.iter().map(|variable| {
             let place = locator.locate_variable(&variable.die, variable.is_abstract);
             let kind = types::type_of(&variable.die);

@@ -1,8 +1,8 @@
 // Runs the script of a page without a browser, then other lines that use the page, and prints what these put into
-// `said`: node page.js PAGE LINES
+// `said`: node page.js PAGE LINES [HASH], with this part of the page's address
 "use strict";
 const fs = require("fs");
-const [page, lines] = process.argv.slice(2).map(path => fs.readFileSync(path, "utf8"));
+const [page, lines] = process.argv.slice(2, 4).map(path => fs.readFileSync(path, "utf8"));
 
 class Element {
   constructor() {
@@ -22,7 +22,9 @@ class Element {
 
 const elements = {};
 const document = { activeElement: null, getElementById: id => (elements[id] ||= new Element()) };
-const window = Object.assign(new Element(), { innerWidth: 1000, innerHeight: 400, devicePixelRatio: 1 });
+const location = { hash: process.argv[4] ?? "" };
+const history = { replaceState: (state, title, address) => { location.hash = address === "#" ? "" : address; } };
+const window = Object.assign(new Element(), { innerWidth: 1000, innerHeight: 400, devicePixelRatio: 1, location, history });
 const part = begin => page.split(begin)[1].split("</script>")[0];
 document.getElementById("data").textContent = part('<script id="data" type="application/json">');
 const said = {};

@@ -59,6 +59,12 @@ pub(crate) const UNREADABLE: [u8; 3] = [op::CONST1S, 0xff, op::DEREF];
 pub(crate) const DEREF: usize = 2;
 
 impl Unsupported {
+    /// Whether it is an operation on values of types.
+    pub fn is_of_types(self) -> bool {
+        use Unsupported::{ConstType, Convert, DerefType, RegvalType, Reinterpret};
+        matches!(self, ConstType | Convert | DerefType | RegvalType | Reinterpret)
+    }
+
     /// Whether it isn't known what the operation does to the stack, so that a hole replaces the
     /// whole expression, which is then not checked.
     pub fn is_whole(self) -> bool {

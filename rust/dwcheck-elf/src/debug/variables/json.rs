@@ -40,6 +40,12 @@ fn value_as_json(of: &Value) -> Json {
         Value::Reference(address, of) => json!({ "address": address, "value": part(of) }),
         Value::Members(members) => members.iter().map(|(name, member)| (name.clone(), part(member))).collect(),
         Value::Elements(elements, _) => elements.iter().map(part).collect(),
+        Value::Entries(entries, _) => {
+            entries.iter().map(|(key, value)| json!({ "key": part(key), "value": part(value) })).collect()
+        }
+        Value::Shared { value, uses, weak } => {
+            json!({ "pointer": value_as_json(value), "use_count": uses, "weak_count": weak })
+        }
         Value::Deeper => Json::Null,
     }
 }

@@ -1,5 +1,7 @@
 //! Finds where a variable is, by its expression or its location list.
 
+use super::scopes::DieId;
+use super::value::Layouts;
 use super::value_location::{Machine, Missing, Pointee, ValueLocation};
 use super::{Frame, Variables};
 use crate::debug::debug_info::{Die, Slice};
@@ -11,7 +13,7 @@ use dwcheck_types::codes::op;
 use dwcheck_types::cursor::Cursor;
 use dwcheck_types::target::Target;
 use gimli::{AttributeValue, DebugAddrIndex, DebugInfoOffset, LocationListsOffset};
-use std::cell::Cell;
+use std::cell::{Cell, RefCell};
 use std::rc::Rc;
 
 /// How deep evaluations may be nested: entry values of entry values, implicit pointers of such.
@@ -34,6 +36,10 @@ pub(super) struct Locator<'v, 'a> {
     frame_base: Cell<Option<u64>>,
     /// Where the thread's variables of the file are, if that is known. `None` if it wasn't looked for.
     thread_block: Cell<Option<Option<u64>>>,
+    /// How the containers keep what they hold.
+    pub layouts: Layouts<'v, 'a>,
+    /// The objects that are being shown: their addresses and types.
+    pub shown: RefCell<Vec<(u64, DieId)>>,
     depth: usize,
     /// How many more of these operations are looked up.
     left: Rc<Cell<usize>>,
@@ -53,7 +59,9 @@ impl<'v, 'a> Locator<'v, 'a> {
         left: Rc<Cell<usize>>,
     ) -> Self {
         let (frame_base, thread_block) = (Cell::new(None), Cell::new(None));
-        let locator = Locator { variables, function, frame, machine, frame_base, thread_block, depth: 0, left };
+        let (layouts, shown) = (Layouts::default(), RefCell::default());
+        let locator =
+            Locator { variables, function, frame, machine, frame_base, thread_block, layouts, shown, depth: 0, left };
         locator.frame_base.set(locator.read_frame_base());
         locator
     }
@@ -173,7 +181,7 @@ impl<'v, 'a> Locator<'v, 'a> {
             }
             match self.run_expression(&rewritten.bytes)? {
                 Outcome::Unreadable { .. } if has_pieces(&rewritten.bytes, scope.target) => {
-                    self.locate_pieces(&rewritten)
+                    self.locate_pieces(die, expression, &rewritten)
                 }
                 outcome => self.location_of_result(die, expression, &rewritten, outcome),
             }
@@ -213,6 +221,7 @@ impl<'v, 'a> Locator<'v, 'a> {
                     let pointer = self.implicit_pointer(die, expression.get(spot.original..).unwrap_or(&[]));
                     pointer.ok_or(Missing::NotEvaluated(Unsupported::ImplicitPointer))
                 }
+                Some(spot) if spot.unsupported.is_of_types() => self.locate_by_types(die, expression, spot.unsupported),
                 Some(spot) => Err(Missing::by_hole(spot.unsupported)),
                 None => Err(what_is_unreadable(&rewritten.bytes, at as usize, self.variables.target)),
             },
@@ -222,7 +231,12 @@ impl<'v, 'a> Locator<'v, 'a> {
 
     /// The pieces of an expression without branches, each evaluated by itself, so that those that are known
     /// have a place.
-    fn locate_pieces(&self, rewritten: &Rewritten<'_>) -> Result<ValueLocation, Missing> {
+    fn locate_pieces(
+        &self,
+        die: &Die<'v, 'a>,
+        expression: &[u8],
+        rewritten: &Rewritten<'_>,
+    ) -> Result<ValueLocation, Missing> {
         let (bytes, target) = (&rewritten.bytes, self.variables.target);
         let mut pieces = Vec::new();
         let mut begin = 0;
@@ -236,10 +250,14 @@ impl<'v, 'a> Locator<'v, 'a> {
                     .into_iter()
                     .next()
                     .map_or(Err(Missing::OptimizedOut), |piece| value_location_of(piece.location)),
-                Outcome::Unreadable { at } => Err(match rewritten.unsupported_at(begin + at as usize) {
-                    Some(spot) => Missing::by_hole(spot.unsupported),
-                    None => what_is_unreadable(part, at as usize, target),
-                }),
+                Outcome::Unreadable { at } => match rewritten.unsupported_at(begin + at as usize) {
+                    Some(spot) if spot.unsupported.is_of_types() => {
+                        let part = expression.get(rewritten.original(begin)..rewritten.original(end)).unwrap_or(&[]);
+                        self.locate_by_types(die, part, spot.unsupported).and_then(first_piece)
+                    }
+                    Some(spot) => Err(Missing::by_hole(spot.unsupported)),
+                    None => Err(what_is_unreadable(part, at as usize, target)),
+                },
                 Outcome::DivisionByZero { .. } => Err(Missing::DivisionByZero),
                 _ => Err(Missing::Unsupported("a result of this kind")),
             };
@@ -261,6 +279,11 @@ impl<'v, 'a> Locator<'v, 'a> {
         Some(ValueLocation::ImplicitPointer(Pointee { name, past, entry: offset.0 }))
     }
 
+    /// The frame base of the function, if it is known.
+    pub fn frame_base(&self) -> Option<u64> {
+        self.frame_base.get()
+    }
+
     /// The frame base of the function, by its expression or list.
     fn read_frame_base(&self) -> Option<u64> {
         let (die, value) = self.function.inherited(gimli::DW_AT_frame_base)?;
@@ -277,6 +300,16 @@ fn has_pieces(bytes: &[u8], target: Target) -> bool {
     let all = operations(bytes, target);
     let is = |code: u8| all.iter().any(|operation| operation.code == code);
     is(op::PIECE) && !is(op::BRA) && !is(op::SKIP)
+}
+
+/// Where the first piece is.
+fn first_piece(pieces: ValueLocation) -> Result<ValueLocation, Missing> {
+    match pieces {
+        ValueLocation::Pieces(pieces) => {
+            pieces.into_iter().next().map_or(Err(Missing::OptimizedOut), |(place, _)| place)
+        }
+        place => Ok(place),
+    }
 }
 
 fn value_location_of(location: Location) -> Result<ValueLocation, Missing> {

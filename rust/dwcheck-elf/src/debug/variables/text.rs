@@ -73,13 +73,29 @@ impl fmt::Display for Value {
                     f.write_str(if index > 0 { ", " } else { "" })?;
                     write_value_text(f, value)?;
                 }
-                if *more > 0 {
-                    write!(f, ", {} more", more)?;
-                }
-                f.write_str("}")
+                write_rest(f, elements.len(), *more)
             }
+            Value::Entries(entries, more) => {
+                f.write_str("{")?;
+                for (index, (key, value)) in entries.iter().enumerate() {
+                    f.write_str(if index > 0 { ", [" } else { "[" })?;
+                    write_value_text(f, key)?;
+                    f.write_str("] = ")?;
+                    write_value_text(f, value)?;
+                }
+                write_rest(f, entries.len(), *more)
+            }
+            Value::Shared { value, uses, weak } => write!(f, "{} (use count {}, weak count {})", value, uses, weak),
             Value::Deeper => f.write_str("{..}"),
         }
+    }
+}
+
+/// How many elements aren't shown.
+fn write_rest(f: &mut fmt::Formatter<'_>, shown: usize, more: u64) -> fmt::Result {
+    match more {
+        0 => f.write_str("}"),
+        _ => write!(f, "{}{} more}}", if shown > 0 { ", " } else { "" }, more),
     }
 }
 

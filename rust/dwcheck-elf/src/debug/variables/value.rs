@@ -4,6 +4,7 @@ mod arrays;
 mod bits;
 mod characters;
 mod class_members;
+mod containers;
 mod enumerations;
 mod large;
 mod numbers;
@@ -17,6 +18,7 @@ use super::types::{is_reference_tag, number_attribute, type_name, type_of, type_
 use super::value_location::{Missing, ValueLocation};
 use crate::debug::debug_info::Die;
 use characters::Characters;
+pub(super) use containers::Layouts;
 
 /// A value of a variable.
 #[derive(Clone, Debug, PartialEq, Eq)]
@@ -38,8 +40,19 @@ pub enum Value {
     Reference(String, Box<Result<Value, Missing>>),
     /// The members of a structure or union with their names.
     Members(Vec<(String, Result<Value, Missing>)>),
-    /// The elements of an array, and how many more there are.
+    /// The elements of an array or a container, and how many more there are.
     Elements(Vec<Result<Value, Missing>>, u64),
+    /// The keys of a container with their values, and how many more there are.
+    Entries(Vec<(Result<Value, Missing>, Result<Value, Missing>)>, u64),
+    /// A pointer that several own, with the numbers of its owners and of those that only watch it.
+    Shared {
+        /// The pointer.
+        value: Box<Value>,
+        /// The number of owners.
+        uses: i64,
+        /// The number of others.
+        weak: i64,
+    },
     /// A structure or array that is deeper than asked for.
     Deeper,
 }
@@ -49,15 +62,17 @@ pub enum Value {
 pub struct Shape {
     /// How deep structures and arrays are followed.
     pub depth: usize,
-    /// The most elements of an array, and the most characters of a text.
+    /// The most elements of an array or a container, and the most characters of a text.
     pub length: usize,
-    /// How many references, and pointers to variables without an address, are followed, one after another.
+    /// How many references, owners, and pointers to variables without an address are followed, one after another.
+    pub references: usize,
+    /// How many other pointers are followed, one after another.
     pub pointers: usize,
 }
 
 impl Default for Shape {
     fn default() -> Self {
-        Shape { depth: 1, length: 200, pointers: 4 }
+        Shape { depth: 1, length: 200, references: 4, pointers: 0 }
     }
 }
 
@@ -94,8 +109,14 @@ impl<'v, 'a> Locator<'v, 'a> {
         }
         let size = self.size_of_type(kind)?;
         let shape = Shape { depth: shape.depth.min(MAX_DEPTH), ..shape };
-        let mut left = MAX_MEMBERS;
-        self.value_of_part(kind, Part { place, size, offset: 0 }, shape, &mut left)
+        let mut left = MAX_MEMBERS.max(shape.length);
+        let value = |left: &mut usize| self.value_of_part(kind, Part { place, size, offset: 0 }, shape, left);
+        match *place {
+            ValueLocation::Memory(address) => {
+                self.unless_shown(address, kind, || value(&mut left)).unwrap_or(Ok(Value::Deeper))
+            }
+            _ => value(&mut left),
+        }
     }
 
     fn value_of_part(
@@ -116,12 +137,14 @@ impl<'v, 'a> Locator<'v, 'a> {
             gimli::DW_TAG_array_type => self.array_value(&kind, part, shape, left),
             gimli::DW_TAG_string_type => self.fortran_string(&kind, part, shape),
             gimli::DW_TAG_structure_type | gimli::DW_TAG_class_type | gimli::DW_TAG_union_type => {
-                match self.counted_text(&kind, part, shape) {
-                    Some(text) => Ok(text),
+                let text = self.counted_text(&kind, part, shape);
+                match text.or_else(|| self.contents(&kind, part, shape, left)) {
+                    Some(contents) => Ok(contents),
                     None => self.member_values(&kind, part, shape, left),
                 }
             }
-            gimli::DW_TAG_pointer_type => self.pointer_value(&kind, part, shape),
+            gimli::DW_TAG_pointer_type if is_box(&kind) => self.reference_value(&kind, part, shape, left),
+            gimli::DW_TAG_pointer_type => self.pointer_value(&kind, part, shape, left),
             gimli::DW_TAG_ptr_to_member_type => self.pointer_to_member(&kind, part),
             tag if is_reference_tag(tag) => self.reference_value(&kind, part, shape, left),
             _ => Err(Missing::Unsupported("a type of this kind")),
@@ -146,7 +169,7 @@ impl<'v, 'a> Locator<'v, 'a> {
         shape: Shape,
         left: &mut usize,
     ) -> Result<Value, Missing> {
-        if shape.depth == 0 {
+        if shape.depth == 0 || *left == 0 {
             return Ok(Value::Deeper);
         }
         let inner = Shape { depth: shape.depth - 1, ..shape };
@@ -196,6 +219,11 @@ impl<'v, 'a> Locator<'v, 'a> {
         let offset = usize::try_from(past).ok().and_then(|past| part.offset.checked_add(past));
         Ok(Part { offset: offset.ok_or(Missing::Unsupported("a member at this offset"))?, ..part })
     }
+}
+
+/// Whether a type is a `Box` of Rust.
+fn is_box(kind: &Die<'_, '_>) -> bool {
+    kind.name().map_or(false, |name| name.starts_with("alloc::boxed::Box<"))
 }
 
 fn is_member_entry(die: &Die<'_, '_>) -> bool {

@@ -48,7 +48,7 @@ impl<'v, 'a> Locator<'v, 'a> {
 
 /// The first bit of a member of bits, counted from the least significant bit of the structure or, in DWARF 4,
 /// of the integer that has the member.
-fn first_bit_of_field(member: &Die<'_, '_>, kind: &Die<'_, '_>, bits: u64) -> Option<u64> {
+pub(super) fn first_bit_of_field(member: &Die<'_, '_>, kind: &Die<'_, '_>, bits: u64) -> Option<u64> {
     if let Some(first) = number_attribute(member, gimli::DW_AT_data_bit_offset) {
         return Some(first);
     }

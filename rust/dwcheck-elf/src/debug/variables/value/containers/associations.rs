@@ -1,0 +1,153 @@
+//! Reads containers that find their elements by keys: trees and hash tables.
+
+use super::cxx::Entries;
+use super::fields::Field;
+use crate::debug::variables::location::Locator;
+use crate::debug::variables::value::{Part, Shape, Value};
+use crate::debug::variables::value_location::ValueLocation;
+
+/// The most nodes from the root of a tree to a leaf: a balanced tree of 2^64 nodes has no more.
+const MAX_HEIGHT: usize = 128;
+
+/// The most places of a hash table that are looked at.
+const MAX_PLACES: u64 = 1 << 22;
+
+/// How many places of a hash table are read at once.
+const AT_ONCE: u64 = 4096;
+
+/// Keys, with values or without.
+pub(super) struct Association<'v, 'a> {
+    /// How many elements there are.
+    pub count: Field<'v, 'a>,
+    pub walk: Walk<'v, 'a>,
+    pub entry: Entry<'v, 'a>,
+}
+
+/// Where the elements are.
+pub(super) enum Walk<'v, 'a> {
+    /// In nodes of a tree, in the order of the keys.
+    Tree { root: Field<'v, 'a>, left: Field<'v, 'a>, right: Field<'v, 'a> },
+    /// In nodes each of which leads to the next one.
+    Chain { first: Field<'v, 'a>, next: Field<'v, 'a> },
+    /// Before bytes each of which says whether an element of a size is there. The mask is the number of the last one.
+    Places { control: Field<'v, 'a>, mask: Field<'v, 'a>, size: u64 },
+}
+
+/// What is in a node or a place.
+pub(super) struct Entry<'v, 'a> {
+    pub key: Field<'v, 'a>,
+    pub value: Option<Field<'v, 'a>>,
+}
+
+impl<'v, 'a> Entry<'v, 'a> {
+    /// What a node of C++ has.
+    pub fn of(held: &Field<'v, 'a>, entries: Entries) -> Option<Self> {
+        Some(match entries {
+            Entries::Pairs => Entry { key: held.member("first")?, value: Some(held.member("second")?) },
+            Entries::Keys => Entry { key: held.clone(), value: None },
+        })
+    }
+}
+
+/// The addresses of nodes or elements, and whether there are no others.
+type Found = (Vec<u64>, bool);
+
+impl<'v, 'a> Locator<'v, 'a> {
+    pub(super) fn association(
+        &self,
+        association: &Association<'v, 'a>,
+        part: Part<'_>,
+        inner: Shape,
+        left: &mut usize,
+    ) -> Option<Value> {
+        let count = self.word(&association.count, part)?;
+        let shown = self.shown(count, inner, *left);
+        let (nodes, are_all) = match &association.walk {
+            Walk::Tree { root, left, right } => self.nodes_of_tree(self.word(root, part)?, [left, right], shown)?,
+            Walk::Chain { first, next } => self.nodes_of_chain(self.word(first, part)?, next, shown)?,
+            Walk::Places { control, mask, size } => {
+                let (control, mask) = (self.word(control, part)?, self.word(mask, part)?);
+                self.elements_in_places(control, mask, *size, shown)?
+            }
+        };
+        if nodes.len() != shown || are_all != (shown as u64 == count) {
+            return None;
+        }
+        Some(self.entries(&association.entry, &nodes, count - shown as u64, inner, left))
+    }
+
+    fn entries(&self, entry: &Entry<'v, 'a>, nodes: &[u64], more: u64, inner: Shape, left: &mut usize) -> Value {
+        let mut value_of = |field: &Field<'v, 'a>, node: u64| {
+            *left = left.saturating_sub(1);
+            let place = ValueLocation::Memory(node);
+            self.value_of_part(
+                &field.kind,
+                field.part(Part { place: &place, size: usize::MAX, offset: 0 }),
+                inner,
+                left,
+            )
+        };
+        match &entry.value {
+            Some(value) => {
+                let pair = |node: &u64| (value_of(&entry.key, *node), value_of(value, *node));
+                Value::Entries(nodes.iter().map(pair).collect(), more)
+            }
+            None => Value::Elements(nodes.iter().map(|node| value_of(&entry.key, *node)).collect(), more),
+        }
+    }
+
+    /// A pointer that a node has.
+    fn pointer_of_node(&self, field: &Field<'v, 'a>, node: u64) -> Option<u64> {
+        let place = ValueLocation::Memory(node);
+        self.word(field, Part { place: &place, size: usize::MAX, offset: 0 })
+    }
+
+    /// The first nodes of a tree, by their order.
+    fn nodes_of_tree(&self, root: u64, [left, right]: [&Field<'v, 'a>; 2], most: usize) -> Option<Found> {
+        let (mut found, mut above) = (Vec::new(), Vec::new());
+        let mut next = root;
+        loop {
+            if next != 0 {
+                if above.len() == MAX_HEIGHT {
+                    return None;
+                }
+                above.push(next);
+                next = self.pointer_of_node(left, next)?;
+                continue;
+            }
+            let node = match above.pop() {
+                Some(node) if found.len() < most => node,
+                above => return Some((found, above.is_none())),
+            };
+            found.push(node);
+            next = self.pointer_of_node(right, node)?;
+        }
+    }
+
+    /// The first nodes of a chain.
+    fn nodes_of_chain(&self, first: u64, next: &Field<'v, 'a>, most: usize) -> Option<Found> {
+        let mut found = Vec::new();
+        let mut node = first;
+        while node != 0 && found.len() < most {
+            found.push(node);
+            node = self.pointer_of_node(next, node)?;
+        }
+        Some((found, node == 0))
+    }
+
+    /// The elements in the first places of a hash table. A place has one if the highest bit of its byte isn't set.
+    fn elements_in_places(&self, control: u64, mask: u64, size: u64, most: usize) -> Option<Found> {
+        let places = mask.checked_add(1).filter(|places| places.is_power_of_two() && *places <= MAX_PLACES)?;
+        let mut found = Vec::new();
+        for begin in (0..places).step_by(AT_ONCE as usize) {
+            let bytes = self.machine.memory(control.checked_add(begin)?, AT_ONCE.min(places - begin) as usize).ok()?;
+            for (place, _) in (begin..).zip(&bytes).filter(|(_, byte)| **byte & 0x80 == 0) {
+                if found.len() == most {
+                    return Some((found, false));
+                }
+                found.push(control.checked_sub((place + 1).checked_mul(size)?)?);
+            }
+        }
+        Some((found, true))
+    }
+}
