@@ -437,9 +437,10 @@ uint32_t dwcheck_step_in(const dwcheck_module *module, const dwcheck_header *hea
 
    Each row is that of a module: the caller gives each module a slot, a number below 64. A walk uses only the rows of
    slots that the caller has confirmed for it, by the bits of a mask: that the slot's module is still loaded where it
-   was. So a slot names one module, from the first dwcheck_rows_fill until dwcheck_rows_forget, and each address that
-   is filled in lies in that module. If siglongjmp leaves a fill or a forget, or a fork copies one that is under way,
-   the rows have to be zeros again. */
+   was. So a slot names one module, from its first fill, by either call below, until dwcheck_rows_forget, and each
+   address that is filled in lies in that module. If siglongjmp leaves a fill or a forget, or a fork copies one that is
+   under way, the rows have to be zeros again. These calls read no process and allocate nothing, so a signal handler may
+   make them with rows of its own. */
 typedef struct dwcheck_rows { uint64_t words[3361]; } dwcheck_rows;
 
 /* Looks `address` up in place, as dwcheck_row_in does, and keeps its row, which is the module's with the slot
@@ -451,8 +452,10 @@ uint32_t dwcheck_rows_fill(dwcheck_rows *rows, uint32_t slot, const dwcheck_modu
                            uint64_t address, dwcheck_fault *fault);
 
 /* The same for a compact row alone, as compilers write nearly all of them: its CFA is a register plus an offset, and
-   registers below 32 are saved at offsets of 16 bits, have no rule or are undefined. Returns NO_ROOM also if the row
-   isn't compact, or if its FDE or CIE may be refused: then dwcheck_rows_fill has the answer. */
+   registers below 32 have no rule, are undefined, or are saved at offsets between -32768 and 32768 other than 0. Returns
+   NO_ROOM also if the row isn't compact, if an instruction for another row of the FDE isn't of this kind, if the
+   instructions of the CIE don't begin with DW_CFA_def_cfa, or if a record that is read may be refused. Then
+   dwcheck_rows_fill has the answer. REFUSED is never returned, and `fault` stays as it was. */
 uint32_t dwcheck_rows_fill_compact(dwcheck_rows *rows, uint32_t slot, const dwcheck_module *module,
                                    const dwcheck_header *header, uint64_t address, dwcheck_fault *fault);
 

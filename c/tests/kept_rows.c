@@ -91,6 +91,24 @@ static struct section functions(void) {
 
 static const dwcheck_header no_header = {NULL, 0, 0}; /* then the section's records are gone through */
 
+/* Fills in a compact row alone: either the answer and the rows are those of dwcheck_rows_fill, or there is no room, and
+   then nothing changes. */
+static uint32_t fill_compact(uint32_t slot, const dwcheck_module *module, const dwcheck_header *header, uint64_t address) {
+    static dwcheck_rows compact, any;
+    const dwcheck_fault untouched = {9, 9, 9, 9};
+    dwcheck_fault fault = untouched, refused;
+    compact = any = rows;
+    uint32_t status = dwcheck_rows_fill_compact(&compact, slot, module, header, address, &fault);
+    IS(memcmp(&fault, &untouched, sizeof fault), 0);
+    if (status == DWCHECK_NO_ROOM) {
+        IS(memcmp(&compact, &rows, sizeof rows), 0);
+    } else {
+        IS(dwcheck_rows_fill(&any, slot, module, header, address, &refused), status);
+        IS(memcmp(&compact, &any, sizeof rows), 0);
+    }
+    return status;
+}
+
 /* Looks the address up and keeps its row. Nothing is allocated, and a fill that keeps nothing changes nothing. */
 static uint32_t fill(uint32_t slot, const struct section *section, uint64_t address) {
     static dwcheck_rows before;
@@ -98,6 +116,7 @@ static uint32_t fill(uint32_t slot, const struct section *section, uint64_t addr
     dwcheck_fault fault;
     long old = requests;
     before = rows;
+    fill_compact(slot, &module, &no_header, address);
     uint32_t status = dwcheck_rows_fill(&rows, slot, &module, &no_header, address, &fault);
     IS(requests, old);
     if (status != DWCHECK_DONE && status != DWCHECK_NO_PLACE) IS(memcmp(&rows, &before, sizeof rows), 0);
@@ -386,6 +405,24 @@ static void rows_that_have_no_place(void) {
     has_no_place(&near);
 }
 
+/* A compact row is filled in with little stack, unless something else is in the FDE or its CIE. */
+static void compact_rows_are_filled_in(void) {
+    static const struct { const char *program; uint32_t status; } cases[] = {
+        {"", DWCHECK_DONE},
+        {"0e2083028603", DWCHECK_DONE},          /* rbx and rbp are saved */
+        {"0e20410a0e300b", DWCHECK_DONE},        /* a later row is remembered and restored */
+        {"8702", DWCHECK_NO_PLACE},              /* rsp is saved, so the row is compact, but can't be kept */
+        {"0f027708", DWCHECK_NO_ROOM},           /* the CFA is what an expression says */
+        {"0e20411003027708", DWCHECK_NO_ROOM},   /* rbx is saved where an expression says, but later */
+        {"3f", DWCHECK_NO_ROOM}};                /* no instruction */
+    for (size_t i = 0; i < sizeof cases / sizeof *cases; i++) {
+        const struct section made = plain_with(cases[i].program);
+        const dwcheck_module module = module_of(&made);
+        IS(fill_compact(1, &module, &no_header, LOAD + PLAIN), cases[i].status);
+        IS(fill_compact(1, &module, &no_header, LOAD + PLAIN - 1), DWCHECK_NONE);
+    }
+}
+
 /* Walks have only rsp and rbp. */
 static void a_cfa_by_another_register_takes_a_cursor(void) {
     const struct section made = plain_with("0c0a00"); /* the CFA is r10 */
@@ -565,6 +602,7 @@ int main(int argc, char **argv) {
     five_addresses_of_one_set();
     more_rows_than_fit();
     fills_that_fail();
+    compact_rows_are_filled_in();
     long rounds = argc > 1 ? atol(argv[1]) : 100000, frames = walks_with_any_rows(rounds);
     IS(frames > rounds, 1);
     printf("%ld rounds and %ld frames with any rows: %d wrong\n", rounds, frames, wrong);

@@ -79,6 +79,8 @@ fn keep_row(rows: &mut CachedRows, slot: u8, address: u64, found: &FoundInPlace<
         × IsKept slot address found.now.row RETURN_ADDRESS false other at held) }
     ensures dropped { result ≡ NO_PLACE → (other at : ℕ) (held : Row)
         → Holds rows.new.rows other at held → Holds rows.old.rows other at held }
+    ensures one { (index : ℕ) × ((other : ℕ) → other ≢ index
+        → entry_at rows.new.rows other ≡ entry_at rows.old.rows other) }
     ensures codes { (result ≡ DONE) ⊎ (result ≡ NO_PLACE) }
 {
     if found.target != LITTLE_64 {
@@ -116,6 +118,8 @@ fn keep_compact_row(
         × IsKept slot address (row_of_compact row.now) RETURN_ADDRESS false other at held) }
     ensures dropped { result ≡ NO_PLACE → (other at : ℕ) (held : Row)
         → Holds rows.new.rows other at held → Holds rows.old.rows other at held }
+    ensures one { (index : ℕ) × ((other : ℕ) → other ≢ index
+        → entry_at rows.new.rows other ≡ entry_at rows.old.rows other) }
     ensures codes { (result ≡ DONE) ⊎ (result ≡ NO_PLACE) }
 {
     if target != LITTLE_64 {
@@ -156,13 +160,15 @@ fn fill_with_any_row(
         × HasRow module.now header.now address target fde row }
     ensures dropped { result ≡ NO_PLACE → (other at : ℕ) (held : Row)
         → Holds rows.new.rows other at held → Holds rows.old.rows other at held }
+    ensures one { (index : ℕ) × ((other : ℕ) → other ≢ index
+        → entry_at rows.new.rows other ≡ entry_at rows.old.rows other) }
     ensures none { result ≡ NONE → IsLookedUp module.now header.now address (Ok None) }
     ensures refused { result ≡ REFUSED → (why : Why)
         × IsLookedUp module.now header.now address (Err why) × (fault.new ≡ cfault_of IN_FRAME why) }
     ensures room { result ≡ NO_ROOM → IsUsable module.now header.now }
     ensures unusable { result ≢ DONE → result ≢ NONE → result ≢ REFUSED → result ≢ NO_ROOM
         → result ≢ NO_PLACE → IsUnusable module.now header.now result }
-    ensures same { result ≢ DONE → result ≢ NO_PLACE → rows.new.rows ≡ rows.old.rows }
+    ensures same { result ≢ DONE → result ≢ NO_PLACE → rows.new ≡ rows.old }
     ensures unreported { result ≢ REFUSED → fault.new ≡ fault.old }
 {
     let mut memory = LookUpMemory::new(alloc);
@@ -174,8 +180,8 @@ fn fill_with_any_row(
 }
 
 /// Does what `dwcheck_rows_fill` does for a compact row, as compilers write nearly all of them, with
-/// little stack. `NO_ROOM` also says that the row may be another one: then `dwcheck_rows_fill` has the
-/// answer.
+/// little stack. `NO_ROOM` also says that the row may be another one, that an instruction for another
+/// row may be, or that a record may be refused: then `dwcheck_rows_fill` has the answer.
 #[unsafe(no_mangle)]
 pub extern "C" fn dwcheck_rows_fill_compact(
     rows: &mut CachedRows,
@@ -194,14 +200,15 @@ pub extern "C" fn dwcheck_rows_fill_compact(
         × HasRow module.now header.now address target fde row }
     ensures dropped { result ≡ NO_PLACE → (other at : ℕ) (held : Row)
         → Holds rows.new.rows other at held → Holds rows.old.rows other at held }
+    ensures one { (index : ℕ) × ((other : ℕ) → other ≢ index
+        → entry_at rows.new.rows other ≡ entry_at rows.old.rows other) }
     ensures none { result ≡ NONE → IsLookedUp module.now header.now address (Ok None) }
-    ensures refused { result ≡ REFUSED → (why : Why)
-        × IsLookedUp module.now header.now address (Err why) × (fault.new ≡ cfault_of IN_FRAME why) }
+    ensures faultless { result ≢ REFUSED }
     ensures room { result ≡ NO_ROOM → IsUsable module.now header.now }
-    ensures unusable { result ≢ DONE → result ≢ NONE → result ≢ REFUSED → result ≢ NO_ROOM
-        → result ≢ NO_PLACE → IsUnusable module.now header.now result }
-    ensures same { result ≢ DONE → result ≢ NO_PLACE → rows.new.rows ≡ rows.old.rows }
-    ensures unreported { result ≢ REFUSED → fault.new ≡ fault.old }
+    ensures unusable { result ≢ DONE → result ≢ NONE → result ≢ NO_ROOM → result ≢ NO_PLACE
+        → IsUnusable module.now header.now result }
+    ensures same { result ≢ DONE → result ≢ NO_PLACE → rows.new ≡ rows.old }
+    ensures unreported { fault.new ≡ fault.old }
 {
     match look_up_compact(module, header, address) {
         Ok((target, CompactAnswer::Row(row, fde))) => {
@@ -237,13 +244,15 @@ pub extern "C" fn dwcheck_rows_fill(
         × HasRow module.now header.now address target fde row }
     ensures dropped { result ≡ NO_PLACE → (other at : ℕ) (held : Row)
         → Holds rows.new.rows other at held → Holds rows.old.rows other at held }
+    ensures one { (index : ℕ) × ((other : ℕ) → other ≢ index
+        → entry_at rows.new.rows other ≡ entry_at rows.old.rows other) }
     ensures none { result ≡ NONE → IsLookedUp module.now header.now address (Ok None) }
     ensures refused { result ≡ REFUSED → (why : Why)
         × IsLookedUp module.now header.now address (Err why) × (fault.new ≡ cfault_of IN_FRAME why) }
     ensures room { result ≡ NO_ROOM → IsUsable module.now header.now }
     ensures unusable { result ≢ DONE → result ≢ NONE → result ≢ REFUSED → result ≢ NO_ROOM
         → result ≢ NO_PLACE → IsUnusable module.now header.now result }
-    ensures same { result ≢ DONE → result ≢ NO_PLACE → rows.new.rows ≡ rows.old.rows }
+    ensures same { result ≢ DONE → result ≢ NO_PLACE → rows.new ≡ rows.old }
     ensures unreported { result ≢ REFUSED → fault.new ≡ fault.old }
 {
     let status = dwcheck_rows_fill_compact(rows, slot, module, header, address, fault);

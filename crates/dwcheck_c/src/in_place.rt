@@ -111,6 +111,7 @@ fn in_place<'a, 'h>(module: &CModule<'a>, header: &CHeader<'h>) -> Result<InPlac
     ensures placed { IfOk result (λ place. AreInPlace module.now header.now (section_of place.section)
         (option_map table_of place.table)) }
     ensures why { IfErr result (λ why. (address : ℕ) → IsNoRow module.now header.now address why) }
+    ensures faultless { IfErr result (λ why. (first : Why) → why ≢ NoAnswer.Refused first) }
 {
     if module.frame.len() >= 1 << 32 {
         return Err(NoAnswer::TooLong);
@@ -190,6 +191,7 @@ pub(crate) fn look_up_compact<'a>(
         IsLookedUpCompactly module.now header.now address found.0 found.1) }
     ensures usable { IfOk result (λ _. IsUsable module.now header.now) }
     ensures why { IfErr result (IsNoRow module.now header.now address) }
+    ensures faultless { IfErr result (λ why. (first : Why) → why ≢ NoAnswer.Refused first) }
 {
     let place = in_place(module, header)?;
     let target = place.section.target;

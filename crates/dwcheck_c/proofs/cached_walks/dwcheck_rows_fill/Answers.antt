@@ -1,6 +1,6 @@
-use Rattle.std.proofs.Common.{List, arith, subst}
+use Rattle.std.proofs.Common.{arith, subst}
 use Rattle.dw_cached_rows.specs.CachedRows.{Holds}
-use Rattle.dw_cached_rows.specs.declared.packed_row.PackedRow.{PackedRow}
+use Rattle.dw_cached_rows.specs.declared.cached_rows.CachedRows.{CachedRows}
 use Rattle.dwcheck_c.proofs.cached_walks.dwcheck_rows_fill.Goals as goal
 
 pub returns-then-status-eq-NO_ROOM-clause-dropped : goal.returns-then-status-eq-NO_ROOM-clause-dropped
@@ -8,4 +8,4 @@ returns-then-status-eq-NO_ROOM-clause-dropped c = λ dropped other at held is.
     let compact = c.dwcheck_rows_fill_compact-status in
     let same = compact.ensures.same (λ done. omega (arith, done, c.if-status-eq-NO_ROOM.true))
     (λ placed. omega (arith, placed, c.if-status-eq-NO_ROOM.true)) in
-    subst (λ (rows : List PackedRow). Holds rows other at held) same (c.fill_with_any_row.ensures.dropped dropped other at held is)
+    subst (λ (cached : CachedRows). Holds cached.rows other at held) same (c.fill_with_any_row.ensures.dropped dropped other at held is)
