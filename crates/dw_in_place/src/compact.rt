@@ -47,8 +47,8 @@ fn compact_row_of_fde(fde: &EhFde<'_>, address: u64) -> Option<CompactRow>
 /// The compact row of an address, from the record at the offset `at` of a section, which must not be
 /// past its end. Only that record and its CIE are read, and each program once. `Nothing` if the record
 /// isn't an FDE, or doesn't cover the address. It takes time in proportion to the bytes of the two
-/// records, 3 KB of stack, and no other memory. Whatever the answer is, it is that of `row_in_place`,
-/// which takes up to 40 KB of stack; `Unsure` says nothing.
+/// records, 3 KB of stack, and no other memory. `Row` and `Nothing` are what `row_in_place` finds, which
+/// takes up to 40 KB of stack.
 pub fn compact_row_in_place<'a>(
     section: &SectionInPlace<'a>,
     at: u32,
@@ -72,8 +72,8 @@ pub fn compact_row_in_place<'a>(
 
 /// The compact row of an address, from the record that the table names for the address, as
 /// `compact_row_in_place` reads it. `Nothing` also if the table names no record for the address, or one
-/// past the section's end. Whatever the answer is, it is that of `row_for_address_in`; `Unsure` says
-/// nothing. The search takes O(log n) for n entries.
+/// past the section's end. If the table is in order, `Row` and `Nothing` are what `row_for_address_in`
+/// finds. The search takes O(log n) for n entries.
 pub fn compact_row_for_address_in<'a>(
     section: &SectionInPlace<'a>,
     table: &SearchTable<'_>,
@@ -95,8 +95,7 @@ pub fn compact_row_for_address_in<'a>(
 
 /// The compact row of an address, from the first FDE of the section that covers it, as
 /// `compact_row_in_place` reads it. The records before it are read one after another, so this takes time
-/// in proportion to their bytes. Whatever the answer is, it is that of `row_by_records_in`; `Unsure` says
-/// nothing.
+/// in proportion to their bytes. `Row` and `Nothing` are what `row_by_records_in` finds.
 pub fn compact_row_by_records_in<'a>(
     section: &SectionInPlace<'a>,
     address: u64,

@@ -82,7 +82,8 @@ fn ends_of_compact_rows(
 
 /// Adds up where the rows of these addresses end, looked up in the `.eh_frame` section at
 /// `section_address` by the `.eh_frame_hdr` at `header_address`: one by one if `keeps` is 0; as compact
-/// rows one by one if it is 2; or else by a `FrameInPlace`. 0 if the section is too long, or the header isn't as linkers write it.
+/// rows one by one if it is 2; or else by a `FrameInPlace`. 0 if the section is too long, or the header
+/// isn't as linkers write it.
 #[unsafe(no_mangle)]
 pub extern "C" fn bench_look_up_in_place(
     alloc: Global,
