@@ -58,6 +58,15 @@ uint32_t dwcheck_module_check(const dwcheck_module *module, dwcheck_counts *coun
     return proved_dwcheck_module_check(&copy, counts, fault);
 }
 
+PROVED(dwcheck_module_left_out);
+uint32_t dwcheck_module_left_out(const dwcheck_module *module, dwcheck_fault *faults, size_t faults_length, size_t *count,
+                                 dwcheck_fault *fault) {
+    faults = OR_NO_PLACE(faults);
+    if (module->frame) return proved_dwcheck_module_left_out(module, faults, faults_length, count, fault);
+    const dwcheck_module copy = with_address(module);
+    return proved_dwcheck_module_left_out(&copy, faults, faults_length, count, fault);
+}
+
 PROVED(dwcheck_record_at);
 uint32_t dwcheck_record_at(const dwcheck_module *module, uint64_t offset, dwcheck_record *record, dwcheck_fault *fault) {
     if (module->frame) return proved_dwcheck_record_at(module, offset, record, fault);

@@ -144,21 +144,30 @@ class Record(NamedTuple):
     is_signal_frame: bool
 
 
-def _module(section, load_address, eh_frame, is_aarch64, order, address_size, addresses, cookie):
+def _kind(eh_frame, is_aarch64, leave_out):
+    if eh_frame is None:
+        if leave_out:
+            raise ValueError("records are left out of .eh_frame alone")
+        return 0
+    return (2 if is_aarch64 else 1) + (4 if leave_out else 0)
+
+
+def _module(section, load_address, eh_frame, is_aarch64, order, address_size, addresses, cookie, leave_out=False):
     if addresses and addresses[0] >= addresses[1]:
         raise ValueError("`addresses` has none")
     return _Module(frame=section, frame_length=len(section), load_address=load_address, cookie=cookie, room=_NO_BOUND, order=order,
                    address_size=address_size, has_range=addresses is not None, first=addresses[0] if addresses else 0,
-                   last=addresses[1] - 1 if addresses else 0, kind=0 if eh_frame is None else 2 if is_aarch64 else 1,
+                   last=addresses[1] - 1 if addresses else 0, kind=_kind(eh_frame, is_aarch64, leave_out),
                    section_address=eh_frame or 0)
 
 
 class Section:
     """A frame section by itself: `eh_frame` is the address, as linked, of an .eh_frame section; None for
-    .debug_frame."""
+    .debug_frame. With `leave_out`, records of .eh_frame that are refused by themselves are left out."""
 
-    def __init__(self, section: bytes, eh_frame: Optional[int] = None, is_aarch64=False, order=LITTLE, address_size=8):
-        self._module = _module(section, 0, eh_frame, is_aarch64, order, address_size, None, 0)
+    def __init__(self, section: bytes, eh_frame: Optional[int] = None, is_aarch64=False, order=LITTLE, address_size=8,
+                 leave_out=False):
+        self._module = _module(section, 0, eh_frame, is_aarch64, order, address_size, None, 0, leave_out)
         self._section = section
 
     def check(self) -> Contents:
@@ -166,6 +175,15 @@ class Section:
         counts, fault = _Counts(), _Fault()
         _check(_library.dwcheck_module_check(c.byref(self._module), c.byref(counts), c.byref(fault)), fault)
         return Contents(counts.cies, counts.fdes, counts.rows, counts.frame_expressions)
+
+    def left_out(self) -> List[Refused]:
+        """The fault of each record that is left out, in the order of the section."""
+        count, fault = _size(), _Fault()
+        module = c.byref(self._module)
+        _check(_library.dwcheck_module_left_out(module, None, _size(), c.byref(count), c.byref(fault)), fault)
+        faults = (_Fault * count.value)()
+        _check(_library.dwcheck_module_left_out(module, faults, count, c.byref(count), c.byref(fault)), fault)
+        return [Refused(fault) for fault in faults]
 
     def __iter__(self) -> Iterator[Record]:
         """The section's records in turn."""
@@ -285,11 +303,12 @@ class Process:
             yield
 
     def add(self, section: bytes, load_address: int = 0, eh_frame: Optional[int] = None, is_aarch64: bool = False,
-            addresses: Optional[Tuple[int, int]] = None, cookie: int = 0) -> int:
+            addresses: Optional[Tuple[int, int]] = None, cookie: int = 0, leave_out: bool = False) -> int:
         """Adds a module, and returns its id. `eh_frame` is the address, as linked, of an .eh_frame section;
-        None for .debug_frame. The module answers for the `addresses` (the first, and the one after the last),
+        None for .debug_frame. With `leave_out`, records of .eh_frame that are refused by themselves are left out
+        (`Section.left_out` lists their faults). The module answers for the `addresses` (the first, and the one after the last),
         or for those that its section covers."""
-        module = _module(section, load_address, eh_frame, is_aarch64, self.order, self.address_size, addresses, cookie)
+        module = _module(section, load_address, eh_frame, is_aarch64, self.order, self.address_size, addresses, cookie, leave_out)
         number, fault = _u64(), _Fault()
         with self._changing():
             _check(_library.dwcheck_process_add(c.byref(self._handle), c.byref(module), c.byref(number), c.byref(fault)), fault)

@@ -11,9 +11,19 @@ static _Atomic uint64_t readers; /* walks without a cache */
 /* A number that differs between threads: that of their control blocks, which the processor has in a register. */
 static uint64_t number_of_thread(void) { return (uint64_t)(uintptr_t)__builtin_thread_pointer(); }
 
+enum { PAGE = 4096 };
+
+/* Writes to each page of rows that no walk has used. A page that is read before it is written takes two page faults. */
+static void write_first(dwcheck_rows *rows) {
+    volatile uint8_t *bytes = (volatile uint8_t *)rows;
+    for (size_t at = 0; at < sizeof *rows; at += PAGE) bytes[at] = 0;
+}
+
+/* An odd number stays as it is, so this is one write, and no read before it. */
 static bool claim(struct dwcheck_dl_cache *cache) {
-    uint64_t claims = atomic_load_explicit(&cache->claims, memory_order_relaxed);
-    return claims % 2 == 0 && atomic_compare_exchange_strong(&cache->claims, &claims, claims + 1);
+    const uint64_t claims = atomic_fetch_or(&cache->claims, 1);
+    if (claims == 0) write_first(&cache->rows);
+    return claims % 2 == 0;
 }
 
 struct dwcheck_dl_cache *dwcheck_dl_claim(void) {

@@ -141,8 +141,13 @@ typedef struct dwcheck_process { void *opaque; uint64_t opaque_open; } dwcheck_p
 #define DWCHECK_CLOSED ((dwcheck_process){0, 0}) /* a static process is closed without it */
 #endif
 
-/* What a module's section is (`kind`); in .eh_frame aarch64 has instructions of its own. */
-enum { DWCHECK_DEBUG_FRAME = 0, DWCHECK_EH_FRAME = 1, DWCHECK_EH_FRAME_AARCH64 = 2 };
+/* What a module's section is (`kind`); in .eh_frame aarch64 has instructions of its own. With DWCHECK_LEAVE_OUT added
+   to the number of an .eh_frame section, one bad record doesn't refuse the section: each record is left out that can't
+   be read, is an FDE whose CIE is left out or isn't there, or has a fault in its program. All others keep their rows.
+   dwcheck_module_left_out lists what is left out. Two faults are still those of the section: a record's length that
+   can't be read (1, 3), and two FDEs that are kept and cover one address (23). A section without a fault is the same
+   with it as without it. */
+enum { DWCHECK_DEBUG_FRAME = 0, DWCHECK_EH_FRAME = 1, DWCHECK_EH_FRAME_AARCH64 = 2, DWCHECK_LEAVE_OUT = 4 };
 
 /* A module to be added: the executable or a library of the process.
    - `frame` and `frame_length` are the bytes of its section. They aren't needed after the module is added. `kind`
@@ -208,6 +213,14 @@ uint32_t dwcheck_module_at(const dwcheck_process *process, uint64_t address, dwc
    TOO_LONG, BAD_KIND, BAD_TARGET, REFUSED or NO_MEMORY. Of `module`, this call and the next one use `frame`,
    frame_length, `order`, address_size, `kind`, and the three fields at the end. */
 uint32_t dwcheck_module_check(const dwcheck_module *module, dwcheck_counts *counts, dwcheck_fault *fault);
+
+/* Checks a module's section whose kind has DWCHECK_LEAVE_OUT. DONE writes the number of records that are left out to
+   `count`, and for each of them the first fault for which it is, in the order of the section, to `faults`, as many as
+   fit: one of its own record, or NO_SUCH_CIE (9) at the CIE pointer of an FDE whose CIE isn't kept. Returns DONE, or
+   for the same reasons as dwcheck_module_check TOO_LONG, BAD_TARGET, REFUSED or NO_MEMORY; or BAD_KIND for any other
+   kind. */
+uint32_t dwcheck_module_left_out(const dwcheck_module *module, dwcheck_fault *faults, size_t faults_length, size_t *count,
+                                 dwcheck_fault *fault);
 
 /* A record of a section: a CIE, an FDE, or in .eh_frame a record of length 0. Its program is the bytes from
    `program` up to `next`, the offset after the record; an empty record has none, and `program` is its own offset. An

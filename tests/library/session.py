@@ -89,7 +89,7 @@ class Session(Changes):
         self.order, self.size, self.kind, self.bases = dwcheck.LITTLE, 8, 0, [0, 0, 0]
         self.opened, self.shared = None, None
         self.registers, self.blocks, self.kept, self.pointer = {}, [], [], None
-        self.context, self.aarch64 = Context(), False
+        self.context, self.aarch64, self.leave_out = Context(), False, False
 
     def process(self):
         """The process, which has the target of the settings when it is first asked for."""
@@ -106,6 +106,8 @@ class Session(Changes):
             self.order = dwcheck.BIG if name == "big" else self.order
             self.size = 4 if name == "addr4" else self.size
             self.aarch64 = self.aarch64 or name == "aarch64"
+        elif name == "leave_out":
+            self.leave_out = True
         elif name in ("eh", "text", "data"):
             self.bases[("eh", "text", "data").index(name)] = number_of(words[0])
             self.kind = 1
@@ -129,7 +131,7 @@ class Session(Changes):
         """C's struct for a module with these bytes."""
         return _Module(frame=section, frame_length=len(section), load_address=load, has_range=first is not None, first=first or 0,
                        last=last or 0, cookie=cookie, room=room, order=self.order, address_size=self.size,
-                       kind=2 if self.kind and self.aarch64 else self.kind, section_address=self.bases[0],
+                       kind=(2 if self.kind and self.aarch64 else self.kind) + (4 if self.leave_out else 0), section_address=self.bases[0],
                        text_start=self.bases[1], data_start=self.bases[2])
 
     def fault_of(self, frame, lists):
@@ -147,6 +149,15 @@ class Session(Changes):
         if status != DONE:
             return refused(status, fault)
         return f"cies {counts.cies} fdes {counts.fdes} rows {counts.rows} expressions {counts.frame_expressions}"
+
+    def call_left_out(self, known, frame, most="64"):
+        """How many records are left out, and the faults of the first ones."""
+        count, fault, faults = _size(), _Fault(), (_Fault * int(most))()
+        module = self.module(known.of(frame))
+        status = _library.dwcheck_module_left_out(c.byref(module), faults, _size(int(most)), c.byref(count), c.byref(fault))
+        if status != DONE:
+            return refused(status, fault)
+        return ", ".join([str(count.value)] + [refused(REFUSED, found) for found in faults[:count.value]])
 
     def record(self, section, at):
         """The record at an offset: the status, C's struct, and the fault."""

@@ -16,3 +16,4 @@ pub mod Distinct
 pub mod EncodedPlaces
 pub mod CiesByPointer
 pub mod Steps
+pub mod ItemSteps

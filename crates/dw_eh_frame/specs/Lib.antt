@@ -13,6 +13,8 @@ pub mod Records
 pub mod Encoding
 -- exact copies of FDEs
 pub mod Copies
+-- reading on after a record that can't be read
+pub mod Items
 -- ---- How the code's types correspond to these definitions.
 
 pub mod Views

@@ -58,7 +58,7 @@ fn remember(
 
 /// The FDEs that aren't exact copies of earlier ones. It takes n log n for n FDEs, and memory for each
 /// FDE that is kept and for where it begins.
-pub(crate) fn without_copies<'a>(
+pub fn without_copies<'a>(
     alloc: Global,
     fdes: &[FrameDescriptionEntry<'a>],
 ) -> Result<Vec<FrameDescriptionEntry<'a>>, AllocError>

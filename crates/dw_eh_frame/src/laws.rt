@@ -1,18 +1,19 @@
 //! Laws about the records of `.eh_frame`. The functions do nothing: the contract of each is a law.
 
-ghost use Rattle.std.specs.Prelude.{◌≡◌, ◌<◌, ◌≤◌, ◌↔◌, ℕ, Bool, List, [], ◌∷◌, length, map, Contains, Ok, Err, None};
+ghost use Rattle.std.specs.Prelude.{◌≡◌, ◌<◌, ◌≤◌, ◌↔◌, ℕ, Bool, List, [], ◌∷◌, length, map, Contains, Result, Ok, Err, None};
 ghost use Rattle.dw_bytes.specs.declared.target.Target.{Target};
 ghost use Rattle.dw_bytes.specs.declared.fault.Fault.{Fault};
 ghost use Rattle.dw_bytes.specs.Answers.{values_in};
 ghost use Rattle.dw_bytes.specs.Reading.{ReadPosition, IsExact, section_from};
 ghost use Rattle.dw_frame.specs.Bounds.{ArePlaced};
-ghost use Rattle.dw_frame.specs.Records.{Cie, Fde, Record, cie_record, fde_record};
+ghost use Rattle.dw_frame.specs.Records.{Cie, Fde, Record, cie_record, fde_record, cies_among, fdes_among};
 ghost use Rattle.dw_eh_frame.specs.declared.pointer.Bases.{Bases};
 ghost use Rattle.dw_eh_frame.specs.declared.pointer.PointerEncoding.{PointerEncoding};
 ghost use Rattle.dw_eh_frame.specs.declared.pointer.PointerFormat.{PointerFormat};
 ghost use Rattle.dw_eh_frame.specs.Pointers.{pointer_at, range_at};
 ghost use Rattle.dw_eh_frame.specs.Records.{EhFde, EhRecord, eh_fde, all_in_dwarf, eh_cie_at, eh_cie_head_at, eh_record_at, eh_records_from, eh_records_of, eh_reading_fault};
-ghost use Rattle.dw_eh_frame.specs.Copies.{AreDistinct, SaysTheSame, distinct, eh_frame_records};
+ghost use Rattle.dw_eh_frame.specs.Copies.{AreDistinct, SaysTheSame, distinct, eh_frame_records, without_copies};
+ghost use Rattle.dw_eh_frame.specs.Items.{item_at, items_from};
 ghost use Rattle.dw_eh_frame.specs.Encoding.{IsEhCieHead, IsPointer, IsRange, AreEhRecords};
 
 /// What a CIE says before its program is read exactly if the next bytes encode it.
@@ -97,4 +98,30 @@ pub fn only_copies_are_left_out()
 pub fn records_without_copies_are_kept()
     ensures { (target : Target) (at end : ℕ) (records : List Record) → ArePlaced target at end records
         → AreDistinct records → distinct records ≡ records }
+{}
+
+/// Leaving exact copies out moves nothing: all CIEs stay, the FDEs are those that `without_copies`
+/// returns, and records that lie one after another still do.
+pub fn copies_are_left_out_in_place()
+    ensures cies { (records : List Record) → cies_among (distinct records) ≡ cies_among records }
+    ensures fdes { (records : List Record) → fdes_among (distinct records) ≡ without_copies [] (fdes_among records) }
+    ensures placed { (target : Target) (at end : ℕ) (records : List Record) → ArePlaced target at end records
+        → ArePlaced target at end (distinct records) }
+{}
+
+/// Where records that can't be read are passed over, reading a section from an offset on gives the
+/// record there, or its fault, and then what is read after it. Reading stops at the section's end,
+/// or at a length that can't be read, whose fault is then the last item.
+pub fn items_come_in_order()
+    ensures entry { (is_aarch64 : Bool) (bases : Bases) (target : Target) (section : List ℕ) (at next : ℕ) (x : Result EhRecord Fault)
+        → item_at is_aarch64 bases section (section_from target section at)
+        ≡ Ok (x, section_from target section next)
+        → items_from is_aarch64 bases target section at
+        ≡ Ok x ∷ items_from is_aarch64 bases target section next }
+    ensures fault { (is_aarch64 : Bool) (bases : Bases) (target : Target) (section : List ℕ) (at : ℕ) (fault : Fault)
+        → at < length section
+        → item_at is_aarch64 bases section (section_from target section at) ≡ Err fault
+        → items_from is_aarch64 bases target section at ≡ Err fault ∷ [] }
+    ensures nothing { (is_aarch64 : Bool) (bases : Bases) (target : Target) (section : List ℕ) (at : ℕ)
+        → length section ≤ at → items_from is_aarch64 bases target section at ≡ [] }
 {}

@@ -239,7 +239,7 @@ fn read_fde<'a>(
 /// the rest of the record.
 #[inline(always)]
 #[tactic(auto, unfolding(crate::specs::Records::eh_body_at, crate::specs::Records::eh_full_at, crate::specs::Records::eh_cie_at))]
-fn read_body<'a>(
+pub(crate) fn read_body<'a>(
     section: &'a [u8],
     target: Target,
     bases: Bases,

@@ -31,9 +31,10 @@ pub struct EhRecords<'a> {
 /// freed at the end.
 const SHORT_FDE: usize = 32;
 
-/// Whether one of the CIEs, which must be in order of offset, begins at an offset.
+/// Whether one of the CIEs, which must be in order of offset, begins at an offset. It takes log n for n
+/// CIEs.
 #[inline(always)]
-fn has_cie(cies: &[CommonInformationEntry<'_>], offset: u64) -> bool
+pub fn has_cie(cies: &[CommonInformationEntry<'_>], offset: u64) -> bool
     requires { Ascends cie_offset (map cie_of cies.now) }
     ensures { result ≡ has_cie_at (map cie_of cies.now) offset }
 {

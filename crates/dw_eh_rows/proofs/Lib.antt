@@ -3,3 +3,5 @@ pub mod NoCopies
 pub mod WholeSections
 pub mod SignalsRead
 pub mod SignalAddresses
+pub mod SortSteps
+pub mod LeftOut

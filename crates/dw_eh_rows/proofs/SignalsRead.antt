@@ -19,7 +19,7 @@ pub record AreSignals (is_aarch64 : Bool) (bases : Bases) (target : Target) (sec
   pub read : eh_records_of is_aarch64 bases target section ≡ map Ok records ++ eh_records_from is_aarch64 bases target section at
   pub are : ranges ≡ signal_frames records
 
-frames-append : (xs ys : List EhRecord) → signal_frames (xs ++ ys) ≡ signal_frames xs ++ signal_frames ys
+pub frames-append : (xs ys : List EhRecord) → signal_frames (xs ++ ys) ≡ signal_frames xs ++ signal_frames ys
 frames-append [] ys = refl
 frames-append (eh_cie c ∷ xs) ys = frames-append xs ys
 frames-append (eh_nothing n ∷ xs) ys = frames-append xs ys

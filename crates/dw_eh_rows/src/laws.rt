@@ -1,14 +1,16 @@
 //! Laws about checked `.eh_frame` sections and their rows. The functions do nothing, but for the laws
 //! of other crates that they call: the contract of each is a law.
 
-ghost use Rattle.std.specs.Prelude.{◌≡◌, ◌↔◌, ℕ, Bool, false, List, Contains, None};
+ghost use Rattle.std.specs.Prelude.{◌≡◌, ◌↔◌, ℕ, Bool, false, List, ◌∷◌, ◌++◌, Contains, None, Result};
 ghost use Rattle.dw_bytes.specs.Answers.{values_in};
+ghost use Rattle.dw_bytes.specs.declared.fault.Fault.{Fault};
 ghost use Rattle.dw_bytes.specs.declared.target.Target.{Target};
 ghost use Rattle.dw_frame.specs.Records.{Fde, fde_record};
 ghost use Rattle.dw_rows.specs.ExactRows.{HasOneRow};
 ghost use Rattle.dw_rows.specs.Section.{Covers, IsChecked, row_of};
 ghost use Rattle.dw_eh_frame.specs.declared.pointer.Bases.{Bases};
 ghost use Rattle.dw_eh_frame.specs.Records.{EhFde, EhRecord, all_in_dwarf, eh_records_of};
+ghost use Rattle.dw_eh_rows.specs.GoodRecords.{all_records, good_records_of, leave_out, sort_all, sort_one};
 ghost use Rattle.dw_eh_rows.specs.Section.{IsEhWellFormed, eh_frame_of, eh_section_fault};
 ghost use Rattle.dw_eh_rows.specs.Signals.{eh_fdes, is_signal_at, is_signal_frame, signal_frames};
 
@@ -68,3 +70,14 @@ pub fn signal_frames_are_exact()
     dw_eh_frame::laws::cies_are_read_at_their_pointers();
     dw_rows::laws::records_without_fault_are_good();
 }
+
+/// A section without fault keeps all its records. In any other section, a record that is left out
+/// changes nothing of what is kept: the others are those of the section without it.
+pub fn refused_records_change_nothing()
+    ensures whole { (is_aarch64 : Bool) (bases : Bases) (target : Target) (section : List ℕ)
+        → eh_section_fault is_aarch64 bases target section ≡ None
+        → good_records_of is_aarch64 bases target section ≡ all_records is_aarch64 bases target section }
+    ensures others { (before after : List (Result EhRecord Fault)) (item : Result EhRecord Fault) (fault : Fault)
+        → sort_one (sort_all before) item ≡ leave_out (sort_all before) fault
+        → (sort_all (before ++ item ∷ after)).kept ≡ (sort_all (before ++ after)).kept }
+{}

@@ -1,5 +1,5 @@
 -- Look-ups in place: what C passes for one, and what it gets (LSB Core, section 10.6).
-use Rattle.std.specs.Prelude.{◌≡◌, ℕ, ◌^◌, ◌<◌, ◌≤◌, ◌⊎◌, ◌==◌, if◌then◌else◌, Bool, true, false, List, [], ◌∷◌, length, IsSome, Option, Some, None, Result, Ok, Err}
+use Rattle.std.specs.Prelude.{◌≡◌, ℕ, ◌^◌, ◌<◌, ◌≤◌, ◌⊎◌, ◌==◌, ◌||◌, if◌then◌else◌, Bool, true, false, List, [], ◌∷◌, length, IsSome, Option, Some, None, Result, Ok, Err}
 use Rattle.dw_bytes.specs.Answers.{memory}
 use Rattle.dw_bytes.specs.declared.fault.Fault.{Fault}
 use Rattle.dw_bytes.specs.declared.fault.FaultKind.TheVariants.{Memory}
@@ -37,7 +37,7 @@ use Rattle.dwcheck_c.specs.declared.module.CModule.{CModule}
 -- whether the programs of a section are for aarch64, by C's number for an `.eh_frame` section; None
 -- for any other number
 abbrev pub is_aarch64_by : ℕ → Option Bool
-is_aarch64_by n = if n == 1 then Some false else if n == 2 then Some true else None
+is_aarch64_by n = if n == 1 || n == 5 then Some false else if n == 2 || n == 6 then Some true else None
 
 -- the section that C gives
 abbrev pub section_in : Bool → Target → CModule → SectionInPlace

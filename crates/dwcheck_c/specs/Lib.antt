@@ -5,6 +5,7 @@ pub mod Handles
 pub mod Held
 pub mod InPlaceLookUps
 pub mod Lent
+pub mod LeftOutRecords
 pub mod LoadedModules
 pub mod ModuleChecks
 pub mod NotAdded

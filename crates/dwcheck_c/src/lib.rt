@@ -9,6 +9,7 @@ mod cursor;
 mod expressions;
 mod handle;
 mod in_place;
+mod left_out;
 mod listed_registers;
 mod lists;
 mod module;

@@ -49,16 +49,28 @@ fn add_section(
 {
     let load_address = module.load_address;
     let range = module.range();
-    let section = match kind {
-        SectionKind::DebugFrame => {
-            let (cookie, room) = (module.cookie, module.room);
-            return process.add(alloc, module.frame, load_address, range, cookie, room);
-        }
-        SectionKind::EhFrame => module.eh_section(false),
-        SectionKind::EhFrameAarch64 => module.eh_section(true),
-    };
     let (cookie, room) = (module.cookie, module.room);
-    process.add_eh_frame(alloc, section, load_address, range, cookie, room)
+    match kind {
+        SectionKind::DebugFrame => {
+            process.add(alloc, module.frame, load_address, range, cookie, room)
+        }
+        SectionKind::EhFrame => {
+            let section = module.eh_section(false);
+            process.add_eh_frame(alloc, section, load_address, range, cookie, room)
+        }
+        SectionKind::EhFrameAarch64 => {
+            let section = module.eh_section(true);
+            process.add_eh_frame(alloc, section, load_address, range, cookie, room)
+        }
+        SectionKind::GoodEhFrame => {
+            let section = module.eh_section(false);
+            process.add_good_records(alloc, section, load_address, range, cookie, room)
+        }
+        SectionKind::GoodEhFrameAarch64 => {
+            let section = module.eh_section(true);
+            process.add_good_records(alloc, section, load_address, range, cookie, room)
+        }
+    }
 }
 
 /// Adds a module to an open process, if it has the process's target.

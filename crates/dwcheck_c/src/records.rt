@@ -195,8 +195,12 @@ fn record_by(
 {
     match kind {
         SectionKind::DebugFrame => debug_frame_record(module.frame, target, at),
-        SectionKind::EhFrame => eh_frame_record(module.eh_section(false), target, at),
-        SectionKind::EhFrameAarch64 => eh_frame_record(module.eh_section(true), target, at),
+        SectionKind::EhFrame | SectionKind::GoodEhFrame => {
+            eh_frame_record(module.eh_section(false), target, at)
+        }
+        SectionKind::EhFrameAarch64 | SectionKind::GoodEhFrameAarch64 => {
+            eh_frame_record(module.eh_section(true), target, at)
+        }
     }
 }
 

@@ -53,6 +53,16 @@ extern "C" {
         fault: *mut Fault,
     ) -> u32;
 
+    /// Checks a module's section whose kind has LEAVE_OUT. DONE writes the number of records that are left out to
+    /// `count`, and the fault of each to `faults`, as many as fit.
+    pub fn dwcheck_module_left_out(
+        module: *const Module,
+        faults: *mut Fault,
+        faults_length: usize,
+        count: *mut usize,
+        fault: *mut Fault,
+    ) -> u32;
+
     /// Reads the record at `offset` of a module's section. Returns NONE if the section has no byte there.
     /// The call neither allocates nor frees.
     pub fn dwcheck_record_at(

@@ -150,6 +150,8 @@ pub const DEBUG_FRAME: u32 = 0;
 pub const EH_FRAME: u32 = 1;
 /// .eh_frame of aarch64, which has instructions of its own.
 pub const EH_FRAME_AARCH64: u32 = 2;
+/// Added to the number of an .eh_frame section: records that are refused by themselves are left out.
+pub const LEAVE_OUT: u32 = 4;
 
 pub const RECORD_CIE: u32 = 0;
 pub const RECORD_FDE: u32 = 1;

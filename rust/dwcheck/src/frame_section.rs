@@ -1,6 +1,6 @@
 //! A frame section by itself: its check, and its records one after another.
 
-use crate::fault::Error;
+use crate::fault::{Error, Fault};
 use crate::ffi;
 use crate::module::{EhFrame, Module};
 use dwcheck_types::target::Target;
@@ -141,6 +141,57 @@ impl<'a> FrameSection<'a> {
             rows: counts.rows,
             expressions: counts.frame_expressions,
         })
+    }
+
+    /// The fault of each record that is left out of an `.eh_frame` section
+    /// [without refused records](EhFrame::without_refused_records), in the order of the section: the
+    /// first one for which the record can't be used. An FDE whose CIE isn't kept has `NoSuchCie` at its
+    /// CIE pointer. Any other section leaves nothing out. The call checks the section twice if it leaves
+    /// something out.
+    ///
+    /// # Errors
+    ///
+    /// Those of [`check`](FrameSection::check).
+    ///
+    /// ```
+    /// use dwcheck::{EhFrame, FaultKind, FrameSection, Target};
+    ///
+    /// // A CIE with an instruction that doesn't exist, and an FDE of that CIE.
+    /// let bytes = [
+    ///     0x14, 0, 0, 0, 0, 0, 0, 0, 1, b'z', b'R', 0, 1, 0x78, 16, 1, 0x1b, 0x3f, 7, 8, 0x90, 1, 0, 0,
+    ///     0x10, 0, 0, 0, 0x1c, 0, 0, 0, 0xe0, 0xef, 0xff, 0xff, 3, 0, 0, 0, 0, 0, 0, 0,
+    /// ];
+    /// let section = FrameSection::eh_frame(&bytes, EhFrame::at(0x2000), Target::LITTLE_64);
+    /// assert!(section.check().is_err());
+    ///
+    /// let section = EhFrame::at(0x2000).without_refused_records();
+    /// let section = FrameSection::eh_frame(&bytes, section, Target::LITTLE_64);
+    /// assert_eq!(section.check()?.fdes, 0);
+    /// let left_out = section.left_out()?;
+    /// assert_eq!(left_out[0].kind, FaultKind::UnknownInstruction);
+    /// assert_eq!((left_out[1].kind, left_out[1].offset), (FaultKind::NoSuchCie, 28));
+    /// # Ok::<(), dwcheck::Error>(())
+    /// ```
+    pub fn left_out(&self) -> Result<Vec<Fault>, Error> {
+        let section = self.module.eh_frame.as_ref();
+        if !section.map_or(false, |section| section.leaves_refused_out) {
+            return self.check().map(|_| Vec::new());
+        }
+        let mut faults = vec![ffi::Fault::default(); self.write_left_out(&mut [])?];
+        self.write_left_out(&mut faults)?;
+        Ok(faults.into_iter().map(Fault::of).collect())
+    }
+
+    /// Writes the faults of records that are left out, as many as fit. Returns how many there are.
+    fn write_left_out(&self, faults: &mut [ffi::Fault]) -> Result<usize, Error> {
+        let mut count = 0;
+        let module = self.module.raw(self.bytes, self.target);
+        let (place, length) = (faults.as_mut_ptr(), faults.len());
+        // SAFETY: the section is only read, and all other pointers are to locals or borrowed exclusively.
+        Error::of_call(|fault| unsafe {
+            ffi::dwcheck_module_left_out(&module, place, length, &mut count, fault)
+        })?;
+        Ok(count)
     }
 
     /// Reads the record at an offset. `None` if the section has no byte there. Its instructions aren't

@@ -48,6 +48,9 @@ pub struct EhFrame {
     pub data_start: Option<NonZeroU64>,
     /// Whether the section is for aarch64, which has instructions of its own.
     pub is_aarch64: bool,
+    /// Whether records that are refused by themselves are left out; see
+    /// [`without_refused_records`](EhFrame::without_refused_records).
+    pub leaves_refused_out: bool,
 }
 
 impl EhFrame {
@@ -58,6 +61,7 @@ impl EhFrame {
             text_start: None,
             data_start: None,
             is_aarch64: false,
+            leaves_refused_out: false,
         }
     }
 
@@ -66,6 +70,32 @@ impl EhFrame {
     pub fn aarch64(mut self) -> EhFrame {
         self.is_aarch64 = true;
         self
+    }
+
+    /// The same section, but one bad record doesn't refuse it: each record is left out that can't be
+    /// read, is an FDE whose CIE is left out or isn't there, or has a fault in its program. All others
+    /// keep their rows. [`FrameSection::left_out`](crate::FrameSection::left_out) lists the faults.
+    ///
+    /// A record's length that can't be read is still a fault of the section, and so are two FDEs that
+    /// are kept and cover one address. A section without a fault is the same with it as without it.
+    #[must_use]
+    pub fn without_refused_records(mut self) -> EhFrame {
+        self.leaves_refused_out = true;
+        self
+    }
+
+    /// C's number for what the section is.
+    fn kind(&self) -> u32 {
+        let kind = if self.is_aarch64 {
+            ffi::EH_FRAME_AARCH64
+        } else {
+            ffi::EH_FRAME
+        };
+        if self.leaves_refused_out {
+            kind + ffi::LEAVE_OUT
+        } else {
+            kind
+        }
     }
 }
 
@@ -170,11 +200,7 @@ impl Module {
             order: ffi::order_number(target),
             address_size: target.address_size.bytes().into(),
             has_range: u32::from(self.range.is_some()),
-            kind: match eh_frame {
-                None => ffi::DEBUG_FRAME,
-                Some(section) if section.is_aarch64 => ffi::EH_FRAME_AARCH64,
-                Some(_) => ffi::EH_FRAME,
-            },
+            kind: eh_frame.map_or(ffi::DEBUG_FRAME, EhFrame::kind),
             section_address: eh_frame.map_or(0, |section| section.address),
             text_start: number(eh_frame.and_then(|section| section.text_start)),
             data_start: number(eh_frame.and_then(|section| section.data_start)),
