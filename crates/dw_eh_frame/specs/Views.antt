@@ -48,3 +48,9 @@ abbrev pub HasCieOf : Bool → Target → List ℕ → declared_record.EhRecord 
 HasCieOf is_aarch64 target section (records.Cie c) = IsCieOf is_aarch64 target section c
 HasCieOf is_aarch64 target section (records.Fde f) = IsCieOf is_aarch64 target section f.cie × (f.fde.cie_pointer ≡ f.cie.cie.offset)
 HasCieOf is_aarch64 target section (records.Nothing at) = Unit {0}
+
+-- A CIE is what is read at its own offset, and the CIE of an FDE what is read at the FDE's CIE_pointer.
+abbrev pub HasCieAtItsPlace : Bool → Target → List ℕ → EhRecord → Type 0
+HasCieAtItsPlace is_aarch64 target section (eh_cie c) = eh_cie_at is_aarch64 target section c.cie.offset ≡ Ok c
+HasCieAtItsPlace is_aarch64 target section (eh_fde e) = eh_cie_at is_aarch64 target section e.fde.cie_pointer ≡ Ok e.cie
+HasCieAtItsPlace is_aarch64 target section (eh_nothing at) = Unit {0}

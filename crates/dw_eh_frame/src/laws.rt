@@ -13,7 +13,8 @@ ghost use Rattle.dw_eh_frame.specs.declared.pointer.PointerFormat.{PointerFormat
 ghost use Rattle.dw_eh_frame.specs.Pointers.{pointer_at, range_at};
 ghost use Rattle.dw_eh_frame.specs.Records.{EhFde, EhRecord, eh_fde, all_in_dwarf, eh_cie_at, eh_cie_head_at, eh_record_at, eh_records_from, eh_records_of, eh_reading_fault};
 ghost use Rattle.dw_eh_frame.specs.Copies.{AreDistinct, SaysTheSame, distinct, eh_frame_records, without_copies};
-ghost use Rattle.dw_eh_frame.specs.Items.{item_at, items_from};
+ghost use Rattle.dw_eh_frame.specs.Items.{item_at, items_from, items_of};
+ghost use Rattle.dw_eh_frame.specs.Views.{HasCieAtItsPlace};
 ghost use Rattle.dw_eh_frame.specs.Encoding.{IsEhCieHead, IsPointer, IsRange, AreEhRecords};
 
 /// What a CIE says before its program is read exactly if the next bytes encode it.
@@ -124,4 +125,12 @@ pub fn items_come_in_order()
         → items_from is_aarch64 bases target section at ≡ Err fault ∷ [] }
     ensures nothing { (is_aarch64 : Bool) (bases : Bases) (target : Target) (section : List ℕ) (at : ℕ)
         → length section ≤ at → items_from is_aarch64 bases target section at ≡ [] }
+{}
+
+/// Where records that can't be read are passed over, a CIE is still what is read at its own offset, and
+/// the CIE of an FDE what is read at the FDE's CIE_pointer.
+pub fn items_have_their_cies()
+    ensures { (is_aarch64 : Bool) (bases : Bases) (target : Target) (section : List ℕ) (x : EhRecord)
+        → Contains (values_in (items_of is_aarch64 bases target section)) (Ok x)
+        → HasCieAtItsPlace is_aarch64 target section x }
 {}

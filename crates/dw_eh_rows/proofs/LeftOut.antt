@@ -1,5 +1,5 @@
 -- A record that is left out changes nothing of what is kept.
-use Rattle.std.proofs.Common.{◌≡◌, Bool, true, false, cond, ℕ, List, [], ◌∷◌, ◌++◌, Option, Some, None, is_none, Result, Ok, Err, refl, sym, ap, ◌∙◌}
+use Rattle.std.proofs.Common.{◌≡◌, Bool, cond, ℕ, List, [], ◌∷◌, ◌++◌, Option, Some, None, is_none, Result, Ok, Err, sym, ap, ◌∙◌}
 use Rattle.std.specs.List.{fold}
 use Rattle.std.proofs.lemmas.List.Sums.{fold-append}
 use Rattle.dw_bytes.specs.declared.target.Target.{Target}

@@ -5,3 +5,4 @@ pub mod SignalsRead
 pub mod SignalAddresses
 pub mod SortSteps
 pub mod LeftOut
+pub mod KeptOnes

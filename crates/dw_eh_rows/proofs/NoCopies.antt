@@ -1,8 +1,8 @@
 -- The records of a section have no exact copies of FDEs, if they have no fault with all of them.
-use Rattle.std.proofs.Common.{◌≡◌, ℕ, ◌↔◌, ◌+◌, ◌≤◌, ◌<◌, List, Contains, None, ap, subst, sym, ◌∙◌, arith}
+use Rattle.std.proofs.Common.{◌≡◌, ℕ, ◌↔◌, List, None, arith}
 use Rattle.dw_bytes.specs.declared.target.Target.{Target}
 use Rattle.dw_frame.specs.Bounds.{ArePlaced}
-use Rattle.dw_frame.specs.Records.{Fde, Record, cies_among, fde_record, fdes_among}
+use Rattle.dw_frame.specs.Records.{Record, cies_among, fdes_among}
 use Rattle.dw_rows.specs.Section.{CoversOnce, parts_fault}
 use Rattle.dw_rows.specs.WellFormed.{AreGood}
 use Rattle.dw_eh_frame.specs.Copies.{AreDistinct, distinct}

@@ -1,5 +1,5 @@
 -- Sorting the records of a section, one after another.
-use Rattle.std.proofs.Common.{◌≡◌, ℕ, ◌<◌, ◌≤◌, Bool, true, false, cond, List, [], ◌∷◌, ◌++◌, length, Option, Some, None, Result, Ok, Err, refl, sym, ap, subst, ◌∙◌, arith}
+use Rattle.std.proofs.Common.{◌≡◌, ℕ, ◌≤◌, Bool, true, false, cond, List, [], ◌∷◌, ◌++◌, length, Option, Some, None, Result, Ok, Err, refl, sym, ap, subst, ◌∙◌, arith}
 use Rattle.std.specs.Prelude.{◌==◌, ◌||◌}
 use Rattle.std.specs.List.{fold, list_any}
 use Rattle.std.specs.Option.{option_or}
@@ -10,7 +10,7 @@ use Rattle.dw_bytes.specs.declared.target.Target.{Target}
 use Rattle.dw_bytes.specs.declared.fault.Fault.{Fault}
 use Rattle.dw_bytes.specs.Answers.{fault_in, values_in}
 use Rattle.dw_frame.specs.Bounds.{ArePlaced, Ascends}
-use Rattle.dw_frame.specs.Records.{Cie, Fde, Record, cie_record, fde_record, cie_in_record, fde_in_record, cies_among, fdes_among}
+use Rattle.dw_frame.specs.Records.{Cie, Fde, cie_record, fde_record, cie_in_record, fde_in_record, cies_among, fdes_among}
 use Rattle.dw_eh_frame.specs.declared.pointer.Bases.{Bases}
 use Rattle.dw_eh_frame.specs.Items.{items_from, items_of}
 use Rattle.dw_eh_frame.specs.Progress.{cie_offset, has_cie_at}

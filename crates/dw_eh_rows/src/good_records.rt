@@ -144,8 +144,7 @@ fn sort_records<'a>(
     let mut last = None;
     let mut at = 0u32;
     while (at as usize) < section.len() {
-        let (item, next) =
-            eh_item_after(section, target, bases, is_aarch64, at, last.as_ref())?;
+        let (item, next) = eh_item_after(section, target, bases, is_aarch64, at, last.as_ref())?;
         match &item {
             Ok(record) => {
                 sort_record(alloc, &mut sorted, record)?;

@@ -19,7 +19,10 @@ pub struct SignalRange {
 }
 
 /// Appends the addresses of an FDE that is a signal frame.
-pub(crate) fn push_signal_frame(ranges: &mut Vec<SignalRange>, record: &EhRecord<'_>) -> Result<(), Fault>
+pub(crate) fn push_signal_frame(
+    ranges: &mut Vec<SignalRange>,
+    record: &EhRecord<'_>,
+) -> Result<(), Fault>
     ensures pushed { OnOk result (ranges.new.items ≡ ranges.old.items ++ frames_of (eh_record_of record.now ∷ [])) }
     ensures lack { IfErr result (λ fault. fault ≡ memory) }
 {

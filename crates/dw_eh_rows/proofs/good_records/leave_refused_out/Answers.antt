@@ -1,8 +1,6 @@
-use Rattle.std.proofs.Common.{List, [], length, map, sym, ap, ◌∙◌, arith}
+use Rattle.std.proofs.Common.{length, ap, arith}
 use Rattle.std.proofs.lemmas.List.{length-map}
-use Rattle.dw_frame.specs.declared.entry.FrameDescriptionEntry.{FrameDescriptionEntry}
 use Rattle.dw_frame.specs.Views.{fde_of}
-use Rattle.dw_eh_frame.specs.Copies.{distinct, without_copies}
 use Rattle.dw_eh_frame.specs.Records.{all_in_dwarf}
 use Rattle.dw_eh_frame.proofs.Placed.{placed-few}
 use Rattle.dw_eh_frame.proofs.Steps.{fdes-fewer}

@@ -1,4 +1,4 @@
-use Rattle.std.proofs.Common.{◌≡◌, ◌≤◌, length, map, List, Result, Ok, Err, refl, sym, ap, subst, arith}
+use Rattle.std.proofs.Common.{◌≡◌, map, List, Result, Ok, Err, refl, sym, ap, subst, arith}
 use Rattle.std.specs.Prelude.{IfOk}
 use Rattle.dw_bytes.specs.declared.fault.Fault.{Fault}
 use Rattle.dw_bytes.specs.Reading.{section_from}
@@ -6,7 +6,7 @@ use Rattle.dw_frame.specs.Views.{cie_of, fde_of}
 use Rattle.dw_eh_frame.specs.declared.record.EhRecord as declared
 use Rattle.dw_eh_frame.specs.Items.{item_at, item_of}
 use Rattle.dw_eh_frame.specs.Views.{HasCieOf, LiesAt, eh_record_of}
-use Rattle.dw_eh_rows.specs.Sorting.{IsSorted, Parts, parts_of, with_fault, with_item}
+use Rattle.dw_eh_rows.specs.Sorting.{IsSorted, parts_of}
 use Rattle.dw_eh_rows.proofs.SortSteps.{sorted-first, sorted-ascend, sorted-left, sorted-record}
 use Rattle.dw_eh_rows.proofs.good_records.sort_records.Goals as goal
 
@@ -49,8 +49,12 @@ loop-at-preserved c =
     ≡ Ok (item_of item, section_from target section next)) c.in-Err.is read.exact in
     record {
       sorted = subst (λ (l : List Fault). IsSorted c.args.is_aarch64 c.args.bases target section next
-          (record { cies = map cie_of c.loop-at.sorted.cies.items; fdes = map fde_of c.loop-at.sorted.fdes.items;
-          signals = c.loop-at.sorted.signals.items; left_out = l })) (sym c.in_ok-push-in-Err.ensures.items)
+          (record {
+            cies = map cie_of c.loop-at.sorted.cies.items;
+            fdes = map fde_of c.loop-at.sorted.fdes.items;
+            signals = c.loop-at.sorted.signals.items;
+            left_out = l;
+          })) (sym c.in_ok-push-in-Err.ensures.items)
           (sorted-left c.args.is_aarch64 c.args.bases target section c.loop-at.at next (Err c.in-Err.fault) c.in-Err.fault (parts_of c.loop-at.sorted)
           c.loop-at.invariant.sorted
           (c.items_come_in_order.ensures.entry c.args.is_aarch64 c.args.bases target section c.loop-at.at next (Err c.in-Err.fault) is)
