@@ -19,11 +19,11 @@ static void write_first(dwcheck_rows *rows) {
     for (size_t at = 0; at < sizeof *rows; at += PAGE) bytes[at] = 0;
 }
 
-/* An odd number stays as it is, so this is one write, and no read before it. */
+/* It begins with a write: for a page that was never used, a read before it would be a page fault more. */
 static bool claim(struct dwcheck_dl_cache *cache) {
-    const uint64_t claims = atomic_fetch_or(&cache->claims, 1);
-    if (claims == 0) write_first(&cache->rows);
-    return claims % 2 == 0;
+    uint64_t claims = 0;
+    if (atomic_compare_exchange_strong(&cache->claims, &claims, 1)) return write_first(&cache->rows), true;
+    return claims % 2 == 0 && atomic_compare_exchange_strong(&cache->claims, &claims, claims + 1);
 }
 
 struct dwcheck_dl_cache *dwcheck_dl_claim(void) {

@@ -32,7 +32,9 @@ pub enum CompactAnswer<'a> {
 }
 
 /// The row of an address that an FDE covers, if the rules that its program and its CIE's program make
-/// are compact. `None` if they aren't, or if a program may have a fault or an expression.
+/// are compact. `None` if they aren't, or if a program may have a fault or an expression. This function
+/// isn't inlined: so its remembered rows take no stack while the records are read.
+#[inline(never)]
 fn compact_row_of_fde(fde: &EhFde<'_>, address: u64) -> Option<CompactRow>
     requires covers { Covers (eh_fde_of fde.now).fde address }
     ensures { IfSome result (IsCompactRowOf (eh_fde_of fde.now) address) }
