@@ -517,6 +517,47 @@ static void module_checks(void) {
     IS(dwcheck_module_check(&m, &counts, &fault), DWCHECK_DONE); IS(counts.cies, 0);
 }
 
+/* The FDE of `eh` is left out once it has an instruction that doesn't exist, and its fault is listed if there is room. */
+static void left_out(void) {
+    uint8_t broken[sizeof eh];
+    memcpy(broken, eh, sizeof eh);
+    broken[sizeof eh - 1] = 0x3f;
+    dwcheck_module m = module_of(broken, sizeof broken, 0x10000);
+    dwcheck_process p = DWCHECK_CLOSED;
+    dwcheck_fault faults[2] = {{9, 9, 9, 9}, {9, 9, 9, 9}};
+    size_t count = 9;
+    long n, left, before = held;
+    uint32_t got;
+    m.kind = DWCHECK_EH_FRAME; m.section_address = 0x2000;
+    IS(dwcheck_module_left_out(&m, faults, 2, &count, &fault), DWCHECK_BAD_KIND); IS(count, 9);
+    m.kind |= DWCHECK_LEAVE_OUT;
+    for (n = 0;; n++) { /* each allocation fails in turn */
+        until = n;
+        got = dwcheck_module_left_out(&m, faults, 2, &count, &fault);
+        left = until;
+        until = -1;
+        IS(got, left >= 0 ? DWCHECK_DONE : DWCHECK_NO_MEMORY);
+        if (left >= 0) break;
+        IS(count, 9); IS(faults[0].number, 9);
+    }
+    IS(held - before, 0);
+    IS(count, 1); IS(faults[0].number, 12); IS(faults[0].offset, sizeof eh - 1); IS(faults[0].within, DWCHECK_IN_FRAME); IS(faults[1].number, 9);
+    IS(dwcheck_module_left_out(&m, NULL, 0, &count, &fault), DWCHECK_DONE); IS(count, 1);
+    m.has_range = 1; m.first = 0x11000; m.last = 0x11fff;
+    IS(add_module(&p, m), DWCHECK_DONE);
+    dwcheck_row row;
+    IS(dwcheck_row_at(&p, 0x11009, &row, rules, 4), DWCHECK_NONE);
+    dwcheck_process_close(&p);
+    broken[0] = 0x70; /* the CIE's length goes past the end */
+    IS(dwcheck_module_left_out(&m, faults, 2, &count, &fault), DWCHECK_REFUSED); IS(fault.number, 1); IS(fault.offset, 4); IS(count, 1);
+    m = module_of(NULL, 0, 0);
+    m.kind = DWCHECK_EH_FRAME | DWCHECK_LEAVE_OUT;
+    IS(dwcheck_module_left_out(&m, faults, 2, &count, &fault), DWCHECK_DONE); IS(count, 0);
+    m.kind = DWCHECK_DEBUG_FRAME | DWCHECK_LEAVE_OUT;
+    IS(dwcheck_module_left_out(&m, faults, 2, &count, &fault), DWCHECK_BAD_KIND);
+    IS(add_module(&p, m), DWCHECK_BAD_KIND);
+}
+
 /* A handler that returns to the signal frame of `eh`, which interrupted a function at its first address: the
    address before belongs to no function. `registers` are known, of which 97 have no place in a cursor. */
 static void signal_walks(size_t its_registers) {
@@ -1153,6 +1194,7 @@ int main(void) {
     eh_frames();
     records();
     module_checks();
+    left_out();
     signal_walks(17);
     signal_walks(97);
     signed_walks(17);
