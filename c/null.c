@@ -59,12 +59,12 @@ uint32_t dwcheck_module_check(const dwcheck_module *module, dwcheck_counts *coun
 }
 
 PROVED(dwcheck_module_left_out);
-uint32_t dwcheck_module_left_out(const dwcheck_module *module, dwcheck_fault *faults, size_t faults_length, size_t *count,
-                                 dwcheck_fault *fault) {
-    faults = OR_NO_PLACE(faults);
-    if (module->frame) return proved_dwcheck_module_left_out(module, faults, faults_length, count, fault);
+uint32_t dwcheck_module_left_out(const dwcheck_module *module, dwcheck_left_out *left_out, size_t left_out_length,
+                                 size_t *count, dwcheck_fault *fault) {
+    left_out = OR_NO_PLACE(left_out);
+    if (module->frame) return proved_dwcheck_module_left_out(module, left_out, left_out_length, count, fault);
     const dwcheck_module copy = with_address(module);
-    return proved_dwcheck_module_left_out(&copy, faults, faults_length, count, fault);
+    return proved_dwcheck_module_left_out(&copy, left_out, left_out_length, count, fault);
 }
 
 PROVED(dwcheck_record_at);

@@ -37,6 +37,7 @@ def _structure(name, **fields):
 
 _u8, _u16, _u32, _u64, _i64, _size, _pointer = c.c_uint8, c.c_uint16, c.c_uint32, c.c_uint64, c.c_int64, c.c_size_t, c.c_void_p
 _Fault = _structure("_Fault", number=_u32, offset=_u32, within=_u32, reserved=_u32)
+_LeftOut = _structure("_LeftOut", offset=_u64, fault=_Fault)
 _Counts = _structure("_Counts", cies=_u64, fdes=_u64, rows=_u64, frame_expressions=_u64, tables=_u64, lists=_u64, list_expressions=_u64)
 _Handle = _structure("_Handle", opaque=_pointer, opaque_open=_u64)
 _Module = _structure("_Module", frame=c.c_char_p, frame_length=_size, load_address=_u64, first=_u64, last=_u64, cookie=_u64, room=_size,
@@ -144,12 +145,22 @@ class Record(NamedTuple):
     is_signal_frame: bool
 
 
+class LeftOut(NamedTuple):
+    """A record that is left out: the offset of its first byte, and the first reason why."""
+
+    offset: int
+    fault: Refused
+
+
+_LEAVE_OUT = 4
+
+
 def _kind(eh_frame, is_aarch64, leave_out):
     if eh_frame is None:
         if leave_out:
-            raise ValueError("records are left out of .eh_frame alone")
+            raise ValueError("leave_out needs eh_frame")
         return 0
-    return (2 if is_aarch64 else 1) + (4 if leave_out else 0)
+    return (2 if is_aarch64 else 1) | (_LEAVE_OUT if leave_out else 0)
 
 
 def _module(section, load_address, eh_frame, is_aarch64, order, address_size, addresses, cookie, leave_out=False):
@@ -163,7 +174,7 @@ def _module(section, load_address, eh_frame, is_aarch64, order, address_size, ad
 
 class Section:
     """A frame section by itself: `eh_frame` is the address, as linked, of an .eh_frame section; None for
-    .debug_frame. With `leave_out`, records of .eh_frame that are refused by themselves are left out."""
+    .debug_frame. With `leave_out`, bad records of .eh_frame are left out instead of refusing the section."""
 
     def __init__(self, section: bytes, eh_frame: Optional[int] = None, is_aarch64=False, order=LITTLE, address_size=8,
                  leave_out=False):
@@ -176,14 +187,17 @@ class Section:
         _check(_library.dwcheck_module_check(c.byref(self._module), c.byref(counts), c.byref(fault)), fault)
         return Contents(counts.cies, counts.fdes, counts.rows, counts.frame_expressions)
 
-    def left_out(self) -> List[Refused]:
-        """The fault of each record that is left out, in the order of the section."""
+    def left_out(self) -> List[LeftOut]:
+        """The records that are left out, in the order of the section; none without `leave_out`."""
+        if not self._module.kind & _LEAVE_OUT:
+            self.check()
+            return []
         count, fault = _size(), _Fault()
         module = c.byref(self._module)
         _check(_library.dwcheck_module_left_out(module, None, _size(), c.byref(count), c.byref(fault)), fault)
-        faults = (_Fault * count.value)()
-        _check(_library.dwcheck_module_left_out(module, faults, count, c.byref(count), c.byref(fault)), fault)
-        return [Refused(fault) for fault in faults]
+        found = (_LeftOut * count.value)()
+        _check(_library.dwcheck_module_left_out(module, found, count, c.byref(count), c.byref(fault)), fault)
+        return [LeftOut(one.offset, Refused(one.fault)) for one in found]
 
     def __iter__(self) -> Iterator[Record]:
         """The section's records in turn."""
@@ -305,8 +319,8 @@ class Process:
     def add(self, section: bytes, load_address: int = 0, eh_frame: Optional[int] = None, is_aarch64: bool = False,
             addresses: Optional[Tuple[int, int]] = None, cookie: int = 0, leave_out: bool = False) -> int:
         """Adds a module, and returns its id. `eh_frame` is the address, as linked, of an .eh_frame section;
-        None for .debug_frame. With `leave_out`, records of .eh_frame that are refused by themselves are left out
-        (`Section.left_out` lists their faults). The module answers for the `addresses` (the first, and the one after the last),
+        None for .debug_frame. With `leave_out`, bad records of .eh_frame are left out instead of refusing
+        the section (`Section.left_out` lists them). The module answers for the `addresses` (the first, and the one after the last),
         or for those that its section covers."""
         module = _module(section, load_address, eh_frame, is_aarch64, self.order, self.address_size, addresses, cookie, leave_out)
         number, fault = _u64(), _Fault()

@@ -11,7 +11,7 @@ export module dwcheck;
 
 // Structures.
 export using ::dwcheck_fault, ::dwcheck_counts, ::dwcheck_expression, ::dwcheck_process,
-    ::dwcheck_module, ::dwcheck_loaded, ::dwcheck_record, ::dwcheck_rule, ::dwcheck_row,
+    ::dwcheck_module, ::dwcheck_left_out, ::dwcheck_loaded, ::dwcheck_record, ::dwcheck_rule, ::dwcheck_row,
     ::dwcheck_block, ::dwcheck_state, ::dwcheck_answer, ::dwcheck_register, ::dwcheck_caller,
     ::dwcheck_frame, ::dwcheck_cache, ::dwcheck_cursor, ::dwcheck_reader, ::dwcheck_header, ::dwcheck_rows, ::dwcheck_place,
     ::dwcheck_register_place, ::dwcheck_register_frame, ::dwcheck_context,

@@ -78,7 +78,7 @@ enum {
     DWCHECK_NO_ROOM = 3,    /* the table of the section can take more than `room` bytes; or see dwcheck_row_in */
     DWCHECK_BAD_TARGET = 4, /* no such target, or the process is open for another one */
     DWCHECK_TOO_LONG = 5,   /* the section or expression has 2^32 bytes or more */
-    DWCHECK_BAD_KIND = 6,   /* `kind` isn't 0, 1 or 2, be it of a section or of an expression */
+    DWCHECK_BAD_KIND = 6,   /* `kind` is no value that the call takes, be it of a section or of an expression */
     DWCHECK_NONE = 7,       /* what was looked up doesn't exist */
     DWCHECK_OVERLAPS = 8,   /* the module's range shares an address with another module's range */
     DWCHECK_BAD_RANGE = 9,  /* the module has no range that it could answer for */
@@ -141,12 +141,16 @@ typedef struct dwcheck_process { void *opaque; uint64_t opaque_open; } dwcheck_p
 #define DWCHECK_CLOSED ((dwcheck_process){0, 0}) /* a static process is closed without it */
 #endif
 
-/* What a module's section is (`kind`); in .eh_frame aarch64 has instructions of its own. With DWCHECK_LEAVE_OUT added
-   to the number of an .eh_frame section, one bad record doesn't refuse the section: each record is left out that can't
-   be read, is an FDE whose CIE is left out or isn't there, or has a fault in its program. All others keep their rows.
-   dwcheck_module_left_out lists what is left out. Two faults are still those of the section: a record's length that
-   can't be read (1, 3), and two FDEs that are kept and cover one address (23). A section without a fault is the same
-   with it as without it. */
+/* What a module's section is (`kind`); in .eh_frame aarch64 has instructions of its own.
+   DWCHECK_LEAVE_OUT may be or'ed to the number of an .eh_frame section. Then bad records are left out instead of
+   refusing the section. A record is bad if it can't be read, if it is an FDE whose CIE is missing or bad, or if its
+   program has a fault. All others keep their rows. dwcheck_module_left_out lists the bad ones; the call that adds the
+   module doesn't say whether there were any. A walk ends at a function without rows. The module's range should be
+   passed: without one it is that of what is kept. Two faults are still the section's: a record's length that is
+   reserved or goes past the section's end, since nothing says where the next record begins; and 23, two FDEs that are
+   kept and cover one address, since nothing says which of them is right. A wrong length that stays inside the section
+   is believed. If the section has no fault, the flag changes nothing. It changes nothing either in calls that look at
+   one record alone (dwcheck_record_at, dwcheck_row_in, dwcheck_step_in, dwcheck_rows_fill). */
 enum { DWCHECK_DEBUG_FRAME = 0, DWCHECK_EH_FRAME = 1, DWCHECK_EH_FRAME_AARCH64 = 2, DWCHECK_LEAVE_OUT = 4 };
 
 /* A module to be added: the executable or a library of the process.
@@ -177,7 +181,8 @@ typedef struct dwcheck_module {
    module's id. Ids count up from 1, so a process doesn't give an id twice while it is open, even if the module is
    removed. A process that dwcheck_process_share makes counts on from the same number, so of two processes that share
    modules, only one should get new ones. No two modules may answer for the same address. Returns DONE; or the first of
-   these for which there is a reason: TOO_LONG; BAD_KIND; BAD_TARGET; REFUSED with the first fault of the section;
+   these for which there is a reason: TOO_LONG; BAD_KIND; BAD_TARGET; REFUSED with the first fault of the section,
+   or with DWCHECK_LEAVE_OUT of the section as a whole;
    BAD_RANGE; OVERLAPS, and then `id` becomes the id of a module whose range shares an address with this one's;
    NO_ROOM. NO_MEMORY may come in place of any but the first three. BAD_RANGE means that `first` is above `last` or
    `last` is 2^w or more; or that has_range is 0, and the section covers no address, or covers addresses on both sides
@@ -210,17 +215,20 @@ uint32_t dwcheck_module_at(const dwcheck_process *process, uint64_t address, dwc
 /* ---- the section of a module --------------------------------------------------------------------------------------- */
 /* Checks a module's section as dwcheck_process_add does, but adds it nowhere. DONE writes what the section contains to
    `counts`, where exact copies of an FDE count once. Returns DONE, or for the same reasons as dwcheck_process_add
-   TOO_LONG, BAD_KIND, BAD_TARGET, REFUSED or NO_MEMORY. Of `module`, this call and the next one use `frame`,
+   TOO_LONG, BAD_KIND, BAD_TARGET, REFUSED or NO_MEMORY. Of `module`, this call and the next two use `frame`,
    frame_length, `order`, address_size, `kind`, and the three fields at the end. */
 uint32_t dwcheck_module_check(const dwcheck_module *module, dwcheck_counts *counts, dwcheck_fault *fault);
 
+/* A record that is left out: the offset of its first byte, and the first reason why it is. The fault's own offset may
+   be at the record's end, where the next one begins. An FDE whose CIE isn't kept has NoSuchCie (9) at its CIE pointer. */
+typedef struct dwcheck_left_out { uint64_t offset; dwcheck_fault fault; } dwcheck_left_out;
+
 /* Checks a module's section whose kind has DWCHECK_LEAVE_OUT. DONE writes the number of records that are left out to
-   `count`, and for each of them the first fault for which it is, in the order of the section, to `faults`, as many as
-   fit: one of its own record, or NO_SUCH_CIE (9) at the CIE pointer of an FDE whose CIE isn't kept. Returns DONE, or
-   for the same reasons as dwcheck_module_check TOO_LONG, BAD_TARGET, REFUSED or NO_MEMORY; or BAD_KIND for any other
-   kind. */
-uint32_t dwcheck_module_left_out(const dwcheck_module *module, dwcheck_fault *faults, size_t faults_length, size_t *count,
-                                 dwcheck_fault *fault);
+   `count`, and the records themselves to `left_out`, in the order of the section, as many as fit. With a left_out_length
+   of 0 only the number is written. Each call checks the section again. Returns DONE; TOO_LONG; BAD_KIND if the kind
+   hasn't that flag; BAD_TARGET; REFUSED with the fault of the section as a whole; or NO_MEMORY. */
+uint32_t dwcheck_module_left_out(const dwcheck_module *module, dwcheck_left_out *left_out, size_t left_out_length,
+                                 size_t *count, dwcheck_fault *fault);
 
 /* A record of a section: a CIE, an FDE, or in .eh_frame a record of length 0. Its program is the bytes from
    `program` up to `next`, the offset after the record; an empty record has none, and `program` is its own offset. An
@@ -432,7 +440,8 @@ typedef struct dwcheck_header { const uint8_t *bytes; size_t length; uint64_t ad
    BAD_KIND; BAD_TARGET; or NO_TABLE if the header isn't as linkers write it (version 1, with the encodings 0x1b, 0x03
    and 0x3b), or shorter than its table.
 
-   If a check accepts the section, and the table leads to all its FDEs, this is the row that the check gives. A wrong
+   If a check without DWCHECK_LEAVE_OUT accepts the section, and the table leads to all its FDEs, this is the row that
+   the check gives. A wrong
    table leads to no row, or to one of other bytes that read as an FDE which covers the address. */
 uint32_t dwcheck_row_in(const dwcheck_module *module, const dwcheck_header *header, uint64_t address, dwcheck_row *row,
                         dwcheck_rule *rules, size_t rules_length, uint32_t *is_signal_frame, dwcheck_fault *fault);

@@ -524,24 +524,25 @@ static void left_out(void) {
     broken[sizeof eh - 1] = 0x3f;
     dwcheck_module m = module_of(broken, sizeof broken, 0x10000);
     dwcheck_process p = DWCHECK_CLOSED;
-    dwcheck_fault faults[2] = {{9, 9, 9, 9}, {9, 9, 9, 9}};
+    dwcheck_left_out found[2] = {{9, {9, 9, 9, 9}}, {9, {9, 9, 9, 9}}};
     size_t count = 9;
     long n, left, before = held;
     uint32_t got;
     m.kind = DWCHECK_EH_FRAME; m.section_address = 0x2000;
-    IS(dwcheck_module_left_out(&m, faults, 2, &count, &fault), DWCHECK_BAD_KIND); IS(count, 9);
+    IS(dwcheck_module_left_out(&m, found, 2, &count, &fault), DWCHECK_BAD_KIND); IS(count, 9);
     m.kind |= DWCHECK_LEAVE_OUT;
     for (n = 0;; n++) { /* each allocation fails in turn */
         until = n;
-        got = dwcheck_module_left_out(&m, faults, 2, &count, &fault);
+        got = dwcheck_module_left_out(&m, found, 2, &count, &fault);
         left = until;
         until = -1;
         IS(got, left >= 0 ? DWCHECK_DONE : DWCHECK_NO_MEMORY);
         if (left >= 0) break;
-        IS(count, 9); IS(faults[0].number, 9);
+        IS(count, 9); IS(found[0].offset, 9);
     }
     IS(held - before, 0);
-    IS(count, 1); IS(faults[0].number, 12); IS(faults[0].offset, sizeof eh - 1); IS(faults[0].within, DWCHECK_IN_FRAME); IS(faults[1].number, 9);
+    IS(count, 1); IS(found[0].offset, 24); IS(found[0].fault.number, 12); IS(found[0].fault.offset, sizeof eh - 1);
+    IS(found[0].fault.within, DWCHECK_IN_FRAME); IS(found[1].offset, 9);
     IS(dwcheck_module_left_out(&m, NULL, 0, &count, &fault), DWCHECK_DONE); IS(count, 1);
     m.has_range = 1; m.first = 0x11000; m.last = 0x11fff;
     IS(add_module(&p, m), DWCHECK_DONE);
@@ -549,12 +550,12 @@ static void left_out(void) {
     IS(dwcheck_row_at(&p, 0x11009, &row, rules, 4), DWCHECK_NONE);
     dwcheck_process_close(&p);
     broken[0] = 0x70; /* the CIE's length goes past the end */
-    IS(dwcheck_module_left_out(&m, faults, 2, &count, &fault), DWCHECK_REFUSED); IS(fault.number, 1); IS(fault.offset, 4); IS(count, 1);
+    IS(dwcheck_module_left_out(&m, found, 2, &count, &fault), DWCHECK_REFUSED); IS(fault.number, 1); IS(fault.offset, 4); IS(count, 1);
     m = module_of(NULL, 0, 0);
     m.kind = DWCHECK_EH_FRAME | DWCHECK_LEAVE_OUT;
-    IS(dwcheck_module_left_out(&m, faults, 2, &count, &fault), DWCHECK_DONE); IS(count, 0);
+    IS(dwcheck_module_left_out(&m, found, 2, &count, &fault), DWCHECK_DONE); IS(count, 0);
     m.kind = DWCHECK_DEBUG_FRAME | DWCHECK_LEAVE_OUT;
-    IS(dwcheck_module_left_out(&m, faults, 2, &count, &fault), DWCHECK_BAD_KIND);
+    IS(dwcheck_module_left_out(&m, found, 2, &count, &fault), DWCHECK_BAD_KIND);
     IS(add_module(&p, m), DWCHECK_BAD_KIND);
 }
 

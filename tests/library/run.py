@@ -12,7 +12,7 @@ comments. A line that ends with a backslash goes on in the next one.
     NAME = BYTES           the bytes of a section, for this file from here on; those of the file
                            `parts` are known everywhere
     big, addr4, aarch64    settings: the byte order, the address size, the instructions of .eh_frame
-    leave_out              a setting: records of .eh_frame that are refused by themselves are left out
+    leave_out              a setting: bad records of .eh_frame are left out
     eh ADDRESS             sections are .eh_frame, at this address as linked
     text ADDRESS, data ADDRESS   what pointers relative to text and to data count from
     reg N VALUE, mem ADDRESS BYTES, keep N.., sp N   the state, as in state files
@@ -24,7 +24,7 @@ byte at offset 8. Numbers may be sums, differences and products, also with i.
 
     check FRAME LISTS      both sections are `accepted`, or the first fault: frame 9 NoSuchCie 28
     contents FRAME         how many CIEs, FDEs, rows and expressions it has, or its fault
-    left_out FRAME [N]     how many records are left out, and the faults of the first N
+    left_out FRAME [N]     how many records are left out, and the first N, each with its offset and its fault
     records FRAME          its records, each with its offset and the bounds of its program, and the fault
     record FRAME OFFSET    the record there
     prefixes FRAME N M     the fault of the first record that can't be read, of the first N up to M bytes

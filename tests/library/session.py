@@ -151,13 +151,13 @@ class Session(Changes):
         return f"cies {counts.cies} fdes {counts.fdes} rows {counts.rows} expressions {counts.frame_expressions}"
 
     def call_left_out(self, known, frame, most="64"):
-        """How many records are left out, and the faults of the first ones."""
-        count, fault, faults = _size(), _Fault(), (_Fault * int(most))()
+        """How many records are left out, and the first ones, each with its offset and its fault."""
+        count, fault, found = _size(), _Fault(), (dwcheck._LeftOut * int(most))()
         module = self.module(known.of(frame))
-        status = _library.dwcheck_module_left_out(c.byref(module), faults, _size(int(most)), c.byref(count), c.byref(fault))
+        status = _library.dwcheck_module_left_out(c.byref(module), found, _size(int(most)), c.byref(count), c.byref(fault))
         if status != DONE:
             return refused(status, fault)
-        return ", ".join([str(count.value)] + [refused(REFUSED, found) for found in faults[:count.value]])
+        return ", ".join([str(count.value)] + [f"{one.offset} {refused(REFUSED, one.fault)}" for one in found[:count.value]])
 
     def record(self, section, at):
         """The record at an offset: the status, C's struct, and the fault."""

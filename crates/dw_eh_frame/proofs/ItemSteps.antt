@@ -14,7 +14,7 @@ use Rattle.dw_bytes.proofs.Sequences.{Forward, goes-on, stops, ends}
 use Rattle.dw_frame.proofs.EachRecord.{some-length}
 use Rattle.dw_eh_frame.specs.declared.pointer.Bases.{Bases}
 use Rattle.dw_eh_frame.specs.Records.{EhCie, EhFde, EhRecord, eh_cie, eh_body_at, eh_cie_at}
-use Rattle.dw_eh_frame.specs.Items.{item_at, items_from, items_of}
+use Rattle.dw_eh_frame.specs.Items.{Item, item_at, items_from, items_of}
 use Rattle.dw_eh_frame.specs.Views.{HasCieAtItsPlace}
 use Rattle.dw_eh_frame.proofs.ExactCases.{body-parts, cie-at-is, cie-before-parts, cie-offset, fde-from-parts, record-is}
 use Rattle.dw_eh_frame.proofs.ExactRecords.{left}
@@ -35,18 +35,18 @@ unfolding item_at
 items-forward is_aarch64 bases section r x after is = go (framed_at r) refl is
   where
     go : (f : Result Framed Fault) → framed_at r ≡ f
-        → ◌>>=◌ {Y = Result EhRecord Fault × ReadPosition} f (λ framed. Ok (eh_body_at is_aarch64 bases section r.position framed.0.0 framed.0.1, framed.1))
+        → ◌>>=◌ {Y = Item × ReadPosition} f (λ framed. Ok ((r.position, eh_body_at is_aarch64 bases section r.position framed.0.0 framed.0.1), framed.1))
         ≡ Ok (x, after)
         → length after.rest < length r.rest
     go (Ok ((format, body), next)) framed same =
-        let pair : ◌≡◌ {A = Result EhRecord Fault × ReadPosition} (eh_body_at is_aarch64 bases section r.position format body, next) (x, after) = cc in
-        let there : next ≡ after = ap (λ (p : Result EhRecord Fault × ReadPosition). p.1) pair in
+        let pair : ◌≡◌ {A = Item × ReadPosition} ((r.position, eh_body_at is_aarch64 bases section r.position format body), next) (x, after) = cc in
+        let there : next ≡ after = ap (λ (p : Item × ReadPosition). p.1) pair in
         framed-forward r format body after (framed ∙ ap (λ (n : ReadPosition). Ok ((format, body), n)) there)
     go (Err fault) framed same = absurd cc
 
 -- ---- laws
 
-pub next-item : (is_aarch64 : Bool) (bases : Bases) (target : Target) (section : List ℕ) (at next : ℕ) (x : Result EhRecord Fault)
+pub next-item : (is_aarch64 : Bool) (bases : Bases) (target : Target) (section : List ℕ) (at next : ℕ) (x : Item)
     → item_at is_aarch64 bases section (section_from target section at) ≡ Ok (x, section_from target section next)
     → items_from is_aarch64 bases target section at ≡ Ok x ∷ items_from is_aarch64 bases target section next
 unfolding items_from
@@ -69,9 +69,6 @@ bad-length is_aarch64 bases target section at fault inside is = stops (item_at i
     (section_from target section at) fault (omega (arith, length-drop at section)) is
 
 -- ---- CIEs at their places
-
-abbrev Item : Type 0
-Item = Result EhRecord Fault
 
 abbrev fine-cie : EhCie → Result EhCie Fault
 fine-cie c = Ok c
@@ -103,12 +100,12 @@ has-place is_aarch64 bases target section at format body after x framed read = e
 
 -- the record, if it could be read, has its CIE
 abbrev HasPlace : Bool → Target → List ℕ → Item → Type 0
-HasPlace is_aarch64 target section (Ok x) = HasCieAtItsPlace is_aarch64 target section x
-HasPlace is_aarch64 target section (Err fault) = Unit {0}
+HasPlace is_aarch64 target section (at, Ok x) = HasCieAtItsPlace is_aarch64 target section x
+HasPlace is_aarch64 target section (at, Err fault) = Unit {0}
 
 item-has : (is_aarch64 : Bool) (bases : Bases) (target : Target) (section : List ℕ) (at : ℕ) (format : Format) (body after : ReadPosition)
-    → framed_at (section_from target section at) ≡ Ok ((format, body), after) → (item : Item)
-    → eh_body_at is_aarch64 bases section at format body ≡ item → HasPlace is_aarch64 target section item
+    → framed_at (section_from target section at) ≡ Ok ((format, body), after) → (read : Result EhRecord Fault)
+    → eh_body_at is_aarch64 bases section at format body ≡ read → HasPlace is_aarch64 target section (at, read)
 item-has is_aarch64 bases target section at format body after framed (Ok x) read =
     has-place is_aarch64 bases target section at format body after x framed read
 item-has is_aarch64 bases target section at format body after framed (Err fault) read = tt
@@ -126,13 +123,13 @@ unfolding item_at
 step is_aarch64 bases target section at item after is = go (framed_at (section_from target section at)) refl is
   where
     go : (f : Result Framed Fault) → framed_at (section_from target section at) ≡ f
-        → ◌>>=◌ {Y = Item × ReadPosition} f (λ framed. Ok (eh_body_at is_aarch64 bases section at framed.0.0 framed.0.1, framed.1))
+        → ◌>>=◌ {Y = Item × ReadPosition} f (λ framed. Ok ((at, eh_body_at is_aarch64 bases section at framed.0.0 framed.0.1), framed.1))
         ≡ Ok (item, after)
         → Step is_aarch64 target section at item after
     go (Ok ((format, body), next)) framed same =
-        let pair : ◌≡◌ {A = Item × ReadPosition} (eh_body_at is_aarch64 bases section at format body, next) (item, after) = cc in
+        let pair : ◌≡◌ {A = Item × ReadPosition} ((at, eh_body_at is_aarch64 bases section at format body), next) (item, after) = cc in
         let there : next ≡ after = ap (λ (p : Item × ReadPosition). p.1) pair in
-        let read : eh_body_at is_aarch64 bases section at format body ≡ item = ap (λ (p : Item × ReadPosition). p.0) pair in
+        let is_item : (at, eh_body_at is_aarch64 bases section at format body) ≡ item = ap (λ (p : Item × ReadPosition). p.0) pair in
         let whole = framed ∙ ap (λ (n : ReadPosition). Ok ((format, body), n)) there in
         let found = framed-found (section_from target section at) format body after whole in
         let some = some-length target.order found.front format (length body.rest) found.length_is in
@@ -143,7 +140,8 @@ step is_aarch64 bases target section at item after is = go (framed_at (section_f
               (omega (arith, found.position, found.body_position, length-append found.front body.rest))
               (left section (found.front ++ body.rest) after.rest at
               (found.parts ∙ sym (append_assoc found.front body.rest after.rest)));
-          has = item-has is_aarch64 bases target section at format body after whole item read;
+          has = subst (HasPlace is_aarch64 target section) is_item (item-has is_aarch64 bases target section at format body after whole
+              (eh_body_at is_aarch64 bases section at format body) refl);
         }
     go (Err fault) framed same = absurd cc
 
@@ -188,7 +186,7 @@ items-have (suc n) is_aarch64 bases target section at few = elim (cases_lt at (l
   | inr none ↦ none-have is_aarch64 bases target section at [] (no-item is_aarch64 bases target section at (omega (arith, none))) refl
 ]
 
-pub items-have-their-cies : (is_aarch64 : Bool) (bases : Bases) (target : Target) (section : List ℕ) (x : EhRecord)
-    → Contains (values_in (items_of is_aarch64 bases target section)) (Ok x) → HasCieAtItsPlace is_aarch64 target section x
-items-have-their-cies is_aarch64 bases target section x among =
-    items-have (length section) is_aarch64 bases target section 0 (omega arith) (Ok x) among
+pub items-have-their-cies : (is_aarch64 : Bool) (bases : Bases) (target : Target) (section : List ℕ) (at : ℕ) (x : EhRecord)
+    → Contains (values_in (items_of is_aarch64 bases target section)) (at, Ok x) → HasCieAtItsPlace is_aarch64 target section x
+items-have-their-cies is_aarch64 bases target section at x among =
+    items-have (length section) is_aarch64 bases target section 0 (omega arith) (at, Ok x) among

@@ -1,9 +1,9 @@
-//! Reading a section on after a record that can't be read.
+//! Reads on past a record that can't be read.
 
 ghost use Rattle.std.specs.Prelude.{◌≡◌, ◌<◌, ◌≤◌, ◌^◌, IfErr, IfOk, IfSome, length};
 ghost use Rattle.dw_bytes.specs.Reading.{section_from};
 ghost use Rattle.dw_bytes.specs.Readers.{ReadsFrom};
-ghost use Rattle.dw_eh_frame.specs.Items.{item_at, item_of};
+ghost use Rattle.dw_eh_frame.specs.Items.{item_at, item_with};
 ghost use Rattle.dw_eh_frame.specs.Views.{HasCieOf, IsCieOf, LiesAt, eh_record_of};
 
 use crate::pointer::Bases;
@@ -26,7 +26,7 @@ pub fn eh_item_after<'a>(
     requires inside { at ≤ length section.now }
     requires short { length section.now < 2 ^ 32 }
     requires last { IfSome last (λ cie. IsCieOf is_aarch64 target section.now cie.now) }
-    ensures exact { ReadsFrom item_of (item_at is_aarch64 bases section.now)
+    ensures exact { ReadsFrom (item_with at) (item_at is_aarch64 bases section.now)
         (section_from target section.now) at result }
     ensures forward { IfOk result (λ item. at < item.1 × item.1 ≤ length section.now) }
     ensures sound { IfOk result (λ item. IfOk item.0 (λ x. LiesAt target at item.1 (eh_record_of x))) }

@@ -1,6 +1,6 @@
 //! Laws about the records of `.eh_frame`. The functions do nothing: the contract of each is a law.
 
-ghost use Rattle.std.specs.Prelude.{◌≡◌, ◌<◌, ◌≤◌, ◌↔◌, ℕ, Bool, List, [], ◌∷◌, length, map, Contains, Result, Ok, Err, None};
+ghost use Rattle.std.specs.Prelude.{◌≡◌, ◌<◌, ◌≤◌, ◌↔◌, ℕ, Bool, List, [], ◌∷◌, length, map, Contains, Ok, Err, None};
 ghost use Rattle.dw_bytes.specs.declared.target.Target.{Target};
 ghost use Rattle.dw_bytes.specs.declared.fault.Fault.{Fault};
 ghost use Rattle.dw_bytes.specs.Answers.{values_in};
@@ -13,7 +13,7 @@ ghost use Rattle.dw_eh_frame.specs.declared.pointer.PointerFormat.{PointerFormat
 ghost use Rattle.dw_eh_frame.specs.Pointers.{pointer_at, range_at};
 ghost use Rattle.dw_eh_frame.specs.Records.{EhFde, EhRecord, eh_fde, all_in_dwarf, eh_cie_at, eh_cie_head_at, eh_record_at, eh_records_from, eh_records_of, eh_reading_fault};
 ghost use Rattle.dw_eh_frame.specs.Copies.{AreDistinct, SaysTheSame, distinct, eh_frame_records, without_copies};
-ghost use Rattle.dw_eh_frame.specs.Items.{item_at, items_from, items_of};
+ghost use Rattle.dw_eh_frame.specs.Items.{Item, item_at, items_from, items_of};
 ghost use Rattle.dw_eh_frame.specs.Views.{HasCieAtItsPlace};
 ghost use Rattle.dw_eh_frame.specs.Encoding.{IsEhCieHead, IsPointer, IsRange, AreEhRecords};
 
@@ -114,7 +114,7 @@ pub fn copies_are_left_out_in_place()
 /// record there, or its fault, and then what is read after it. Reading stops at the section's end,
 /// or at a length that can't be read, whose fault is then the last item.
 pub fn items_come_in_order()
-    ensures entry { (is_aarch64 : Bool) (bases : Bases) (target : Target) (section : List ℕ) (at next : ℕ) (x : Result EhRecord Fault)
+    ensures entry { (is_aarch64 : Bool) (bases : Bases) (target : Target) (section : List ℕ) (at next : ℕ) (x : Item)
         → item_at is_aarch64 bases section (section_from target section at)
         ≡ Ok (x, section_from target section next)
         → items_from is_aarch64 bases target section at
@@ -130,7 +130,7 @@ pub fn items_come_in_order()
 /// Where records that can't be read are passed over, a CIE is still what is read at its own offset, and
 /// the CIE of an FDE what is read at the FDE's CIE_pointer.
 pub fn items_have_their_cies()
-    ensures { (is_aarch64 : Bool) (bases : Bases) (target : Target) (section : List ℕ) (x : EhRecord)
-        → Contains (values_in (items_of is_aarch64 bases target section)) (Ok x)
+    ensures { (is_aarch64 : Bool) (bases : Bases) (target : Target) (section : List ℕ) (at : ℕ) (x : EhRecord)
+        → Contains (values_in (items_of is_aarch64 bases target section)) (at, Ok x)
         → HasCieAtItsPlace is_aarch64 target section x }
 {}

@@ -3,6 +3,6 @@ pub mod NoCopies
 pub mod WholeSections
 pub mod SignalsRead
 pub mod SignalAddresses
-pub mod SortSteps
+pub mod SplitSteps
 pub mod LeftOut
 pub mod KeptOnes

@@ -5,9 +5,9 @@
 pub mod Section
 -- which addresses are those of signal frames
 pub mod Signals
--- a section of which each record that is refused by itself is left out
-pub mod GoodRecords
+-- what is kept of a section if bad records are left out
+pub mod KeptRecords
 -- ---- Internal.
 
--- what is known while records are sorted
-pub mod Sorting
+-- what is known while records are split
+pub mod Splitting

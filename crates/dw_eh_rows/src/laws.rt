@@ -1,7 +1,7 @@
 //! Laws about checked `.eh_frame` sections and their rows. The functions do nothing, but for the laws
 //! of other crates that they call: the contract of each is a law.
 
-ghost use Rattle.std.specs.Prelude.{◌≡◌, ◌↔◌, ◌⊎◌, ℕ, Bool, false, List, ◌∷◌, ◌++◌, Contains, Some, None, Result};
+ghost use Rattle.std.specs.Prelude.{◌≡◌, ◌↔◌, ◌⊎◌, ℕ, Bool, false, List, ◌∷◌, ◌++◌, Contains, Some, None};
 ghost use Rattle.dw_bytes.specs.Answers.{fault_in, values_in};
 ghost use Rattle.dw_bytes.specs.declared.fault.FaultKind.TheVariants.{Overlap};
 ghost use Rattle.dw_bytes.specs.declared.fault.Fault.{Fault};
@@ -10,9 +10,10 @@ ghost use Rattle.dw_frame.specs.Records.{Fde, cies_among, fde_record};
 ghost use Rattle.dw_rows.specs.ExactRows.{HasOneRow};
 ghost use Rattle.dw_rows.specs.Section.{Covers, IsChecked, cie_at, row_of};
 ghost use Rattle.dw_eh_frame.specs.declared.pointer.Bases.{Bases};
-ghost use Rattle.dw_eh_frame.specs.Items.{items_of};
+ghost use Rattle.dw_eh_frame.specs.Items.{Item, items_of};
 ghost use Rattle.dw_eh_frame.specs.Records.{EhFde, EhRecord, all_in_dwarf, eh_fde, eh_records_of};
-ghost use Rattle.dw_eh_rows.specs.GoodRecords.{all_records, good_records_fault, good_records_of, leave_out, own_fault, sort_all, sort_one, sorted_records};
+ghost use Rattle.dw_eh_rows.specs.KeptRecords.{leave_out, split_all, split_one, split_records, whole_fault};
+ghost use Rattle.dw_rules.specs.ProgramFault.{cie_fault, fde_fault};
 ghost use Rattle.dw_eh_rows.specs.Section.{IsEhWellFormed, eh_frame_of, eh_section_fault};
 ghost use Rattle.dw_eh_rows.specs.Signals.{eh_fdes, is_signal_at, is_signal_frame, signal_frames};
 
@@ -73,30 +74,28 @@ pub fn signal_frames_are_exact()
     dw_rows::laws::records_without_fault_are_good();
 }
 
-/// A section without fault keeps all its records. In any other section, a record that is left out
-/// changes nothing of what is kept: the others are those of the section without it.
-pub fn refused_records_change_nothing()
-    ensures whole { (is_aarch64 : Bool) (bases : Bases) (target : Target) (section : List ℕ)
-        → eh_section_fault is_aarch64 bases target section ≡ None
-        → good_records_of is_aarch64 bases target section ≡ all_records is_aarch64 bases target section }
-    ensures others { (before after : List (Result EhRecord Fault)) (item : Result EhRecord Fault) (fault : Fault)
-        → sort_one (sort_all before) item ≡ leave_out (sort_all before) fault
-        → (sort_all (before ++ item ∷ after)).kept ≡ (sort_all (before ++ after)).kept }
+/// A record that is left out changes nothing of what is kept: without it in the list of what is read, the
+/// same others are kept. (That a section without fault keeps all its records is the definition.)
+pub fn bad_records_change_nothing()
+    ensures others { (before after : List Item) (item : Item) (fault : Fault)
+        → split_one (split_all before) item ≡ leave_out (split_all before) item.0 fault
+        → (split_all (before ++ item ∷ after)).kept ≡ (split_all (before ++ after)).kept }
 {}
 
-/// What is kept of a section can only contradict itself: the fault of the section as a whole is that of a
-/// length, or Overlap. An FDE that is kept has the CIE to which it points, as it was read: so its rows
-/// are those of its own two programs, whatever is left out.
+/// Apart from a bad length, the only fault that a section has as a whole is `Overlap`. An FDE that is
+/// kept has the CIE to which it points, as it was read with it: so its rows are those of its own two
+/// programs, whatever is left out.
 pub fn what_is_kept_can_only_overlap()
     ensures fault { (is_aarch64 : Bool) (bases : Bases) (target : Target) (section : List ℕ) (fault : Fault)
-        → good_records_fault is_aarch64 bases target section ≡ Some fault
+        → whole_fault is_aarch64 bases target section ≡ Some fault
         → (fault_in (items_of is_aarch64 bases target section) ≡ Some fault) ⊎ (fault.kind ≡ Overlap) }
     ensures cies { (is_aarch64 : Bool) (bases : Bases) (target : Target) (section : List ℕ) (e : EhFde)
-        → Contains (sorted_records is_aarch64 bases target section).kept (eh_fde e)
-        → cie_at (cies_among (all_in_dwarf (sorted_records is_aarch64 bases target section).kept)) e.fde.cie_pointer
+        → Contains (split_records is_aarch64 bases target section).kept (eh_fde e)
+        → cie_at (cies_among (all_in_dwarf (split_records is_aarch64 bases target section).kept)) e.fde.cie_pointer
         ≡ Some e.cie.cie }
-    ensures own { (is_aarch64 : Bool) (bases : Bases) (target : Target) (section : List ℕ) (x : EhRecord)
-        → Contains (sorted_records is_aarch64 bases target section).kept x → own_fault x ≡ None }
+    ensures programs { (is_aarch64 : Bool) (bases : Bases) (target : Target) (section : List ℕ) (e : EhFde)
+        → Contains (split_records is_aarch64 bases target section).kept (eh_fde e)
+        → (cie_fault e.cie.cie ≡ None) × (fde_fault e.cie.cie e.fde ≡ None) }
 {
     dw_eh_frame::laws::items_have_their_cies();
     dw_eh_frame::laws::copies_are_left_out_in_place();

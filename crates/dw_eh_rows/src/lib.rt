@@ -2,10 +2,10 @@
 #![tactic(auto)]
 
 mod check;
-mod good_records;
+mod kept_records;
 pub mod laws;
 mod signals;
 
 pub use check::check_eh_frame;
-pub use good_records::{GoodRecords, check_good_records};
+pub use kept_records::{KeptRecords, LeftOutRecord, check_eh_frame_leaving_out};
 pub use signals::{SignalRange, cie_after, is_signal_address, signal_frames};

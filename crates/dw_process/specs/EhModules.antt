@@ -4,7 +4,7 @@ use Rattle.std.specs.Prelude.{◌≡◌, ◌⊎◌, ℕ, List, Option, Some, Non
 use Rattle.dw_bytes.specs.Answers.{memory, values_in}
 use Rattle.dw_bytes.specs.declared.fault.Fault.{Fault}
 use Rattle.dw_bytes.specs.declared.target.Target.{Target}
-use Rattle.dw_eh_rows.specs.GoodRecords.{good_frame_of, good_records_fault, good_records_of}
+use Rattle.dw_eh_rows.specs.KeptRecords.{kept_frame_of, kept_of, whole_fault}
 use Rattle.dw_eh_rows.specs.Section.{eh_frame_of, eh_section_fault}
 use Rattle.dw_eh_rows.specs.Signals.{signal_frames}
 use Rattle.dw_eh_rows.specs.declared.signals.SignalRange.{SignalRange}
@@ -59,46 +59,46 @@ IsEhRefused s target load_address given room modules Room = AreRowsRefused s tar
 IsEhRefused s target load_address given room modules Range = AreRowsRefused s target load_address given room modules Range
 IsEhRefused s target load_address given room modules (Overlaps id) = AreRowsRefused s target load_address given room modules (Overlaps id)
 
--- ---- without the records that are refused by themselves
+-- ---- without bad records
 
 -- the fault of a section as a whole
 abbrev pub whole_fault_of : EhSection → Target → Option Fault
-whole_fault_of s target = good_records_fault s.is_aarch64 s.bases target s.bytes.now
+whole_fault_of s target = whole_fault s.is_aarch64 s.bases target s.bytes.now
 
 -- `frame` is the section, with the CIEs and FDEs that are kept. It is checked: each address that one
 -- of these FDEs covers has exactly one row.
-pub record IsGoodFrameOf (s : EhSection) (target : Target) (frame : FrameSection) : Type 0 where
+pub record IsKeptFrameOf (s : EhSection) (target : Target) (frame : FrameSection) : Type 0 where
   pub accepted : whole_fault_of s target ≡ None
-  pub is : frame ≡ good_frame_of s.is_aarch64 s.bases target s.bytes.now
+  pub is : frame ≡ kept_frame_of s.is_aarch64 s.bases target s.bytes.now
   pub checked : IsChecked frame
 
 -- the addresses of the signal frames that are kept
-abbrev pub good_signals_of : EhSection → Target → List SignalRange
-good_signals_of s target = signal_frames (good_records_of s.is_aarch64 s.bases target s.bytes.now).kept
+abbrev pub kept_signals_of : EhSection → Target → List SignalRange
+kept_signals_of s target = signal_frames (kept_of s.is_aarch64 s.bases target s.bytes.now).kept
 
 -- A module with the rows and the signal frames of what is kept is added.
-pub record IsGoodAdded (s : EhSection) (load_address : ℕ) (given : Option AddressRange) (cookie room : ℕ) (old : ProcessState) (id : ℕ)
+pub record IsAddedLeavingOut (s : EhSection) (load_address : ℕ) (given : Option AddressRange) (cookie room : ℕ) (old : ProcessState) (id : ℕ)
     (new : ProcessState) : Type 0 where
   pub frame : FrameSection
-  pub is : IsGoodFrameOf s old.target frame
-  pub rows : IsAddedWith frame (good_signals_of s old.target) load_address given cookie room old id new
+  pub is : IsKeptFrameOf s old.target frame
+  pub rows : IsAddedWith frame (kept_signals_of s old.target) load_address given cookie room old id new
 
 -- the fault is that of the section as a whole
-abbrev pub IsGoodFault : EhSection → Target → Fault → Type 0
-IsGoodFault s target fault = whole_fault_of s target ≡ Some fault
+abbrev pub IsWholeFault : EhSection → Target → Fault → Type 0
+IsWholeFault s target fault = whole_fault_of s target ≡ Some fault
 
 -- the section as a whole has no fault, and `IsRefusedWith` says why its rows aren't added
-pub record AreGoodRowsRefused (s : EhSection) (target : Target) (load_address : ℕ) (given : Option AddressRange) (room : ℕ)
+pub record AreKeptRowsRefused (s : EhSection) (target : Target) (load_address : ℕ) (given : Option AddressRange) (room : ℕ)
     (modules : List LoadedModule) (why : Refusal) : Type 0 where
   pub frame : FrameSection
-  pub is : IsGoodFrameOf s target frame
+  pub is : IsKeptFrameOf s target frame
   pub refused : IsRefusedWith frame load_address given room modules why
 
 -- `Section fault`: memory ran out, or `fault` is that of the section as a whole. In the other cases it
 -- has none.
-abbrev pub IsGoodRefused : EhSection → Target → ℕ → Option AddressRange → ℕ → List LoadedModule → Refusal → Type 0
-IsGoodRefused s target load_address given room modules (Section fault) = (fault ≡ memory) ⊎ IsGoodFault s target fault
-IsGoodRefused s target load_address given room modules Room = AreGoodRowsRefused s target load_address given room modules Room
-IsGoodRefused s target load_address given room modules Range = AreGoodRowsRefused s target load_address given room modules Range
-IsGoodRefused s target load_address given room modules (Overlaps id) =
-    AreGoodRowsRefused s target load_address given room modules (Overlaps id)
+abbrev pub IsRefusedLeavingOut : EhSection → Target → ℕ → Option AddressRange → ℕ → List LoadedModule → Refusal → Type 0
+IsRefusedLeavingOut s target load_address given room modules (Section fault) = (fault ≡ memory) ⊎ IsWholeFault s target fault
+IsRefusedLeavingOut s target load_address given room modules Room = AreKeptRowsRefused s target load_address given room modules Room
+IsRefusedLeavingOut s target load_address given room modules Range = AreKeptRowsRefused s target load_address given room modules Range
+IsRefusedLeavingOut s target load_address given room modules (Overlaps id) =
+    AreKeptRowsRefused s target load_address given room modules (Overlaps id)

@@ -1,14 +1,14 @@
 //! Modules whose rows come from an `.eh_frame` section.
 
 ghost use Rattle.std.specs.Prelude.{◌≡◌, ◌<◌, ◌^◌, IfErr, IfOk, length};
-ghost use Rattle.dw_process.specs.EhModules.{IsEhAdded, IsEhRefused, IsGoodAdded, IsGoodRefused};
+ghost use Rattle.dw_process.specs.EhModules.{IsAddedLeavingOut, IsEhAdded, IsEhRefused, IsRefusedLeavingOut};
 
 use crate::address_range::AddressRange;
 use crate::process::Process;
 use crate::refusal::Refusal;
 use dw_bytes::OUT_OF_MEMORY;
 use dw_eh_frame::Bases;
-use dw_eh_rows::{GoodRecords, check_eh_frame, check_good_records, signal_frames};
+use dw_eh_rows::{KeptRecords, check_eh_frame, check_eh_frame_leaving_out, signal_frames};
 use std::alloc::Global;
 
 /// An `.eh_frame` section (LSB Core, section 10.6).
@@ -61,13 +61,13 @@ impl Process {
         }
     }
 
-    /// Adds an `.eh_frame` section as `add_eh_frame` does, but if the section has a fault, without the
-    /// records that are refused by themselves (`dw_eh_rows::check_good_records`, which also lists
-    /// them). The rows of all others are added.
+    /// Adds an `.eh_frame` section as `add_eh_frame` does, but if the section has a fault, without its
+    /// bad records (`dw_eh_rows::check_eh_frame_leaving_out`, which also lists them). The rows of all
+    /// others are added. If no range is given, it is that of what is kept.
     ///
-    /// A fault is one of the section as a whole: of a record's length, or two FDEs that cover one
+    /// A fault is one of the section as a whole: of a record's length, or of two FDEs that cover one
     /// address. After an error the process is unchanged.
-    pub fn add_good_records(
+    pub fn add_eh_frame_leaving_out(
         &mut self,
         alloc: Global,
         section: EhSection<'_>,
@@ -78,9 +78,9 @@ impl Process {
     ) -> Result<u64, Refusal>
         requires { length section.bytes.now < 2 ^ 32 }
         ensures added { IfOk result
-            (λ id. IsGoodAdded section.entry load_address range cookie room self.old id self.new) }
+            (λ id. IsAddedLeavingOut section.entry load_address range cookie room self.old id self.new) }
         ensures refused { IfErr result
-            (IsGoodRefused section.entry self.old.target load_address range room self.old.modules) }
+            (IsRefusedLeavingOut section.entry self.old.target load_address range room self.old.modules) }
         ensures same { IfErr result (λ _. self.new ≡ self.old) }
     {
         let EhSection {
@@ -88,8 +88,8 @@ impl Process {
             bases,
             is_aarch64,
         } = section;
-        let good = check_good_records(alloc, bytes, self.target(), bases, is_aarch64)?;
-        let GoodRecords { frame, signals, .. } = good;
+        let kept = check_eh_frame_leaving_out(alloc, bytes, self.target(), bases, is_aarch64)?;
+        let KeptRecords { frame, signals, .. } = kept;
         match self.add_checked(alloc, &frame, signals, load_address, range, cookie, room) {
             Ok(id) => Ok(id),
             Err(why) => Err(why),

@@ -3,7 +3,7 @@ use Rattle.std.specs.Prelude.{◌≡◌, ℕ, ◌==◌, if◌then◌else◌, Boo
 use Rattle.dw_bytes.specs.declared.fault.Fault.{Fault}
 use Rattle.dw_bytes.specs.declared.target.Target.{Target}
 use Rattle.dw_rows.specs.Section.{section_fault}
-use Rattle.dw_process.specs.EhModules.{IsEhAdded, IsEhFault, IsEhRefused, IsGoodAdded, IsGoodFault, IsGoodRefused}
+use Rattle.dw_process.specs.EhModules.{IsEhAdded, IsEhFault, IsEhRefused, IsAddedLeavingOut, IsWholeFault, IsRefusedLeavingOut}
 use Rattle.dw_process.specs.declared.eh_frame.EhSection.{EhSection}
 use Rattle.dw_process.specs.Processes.{IsAdded, ProcessState}
 use Rattle.dw_process.specs.Refusals.{IsRefused}
@@ -14,7 +14,7 @@ use Rattle.dw_c_types.specs.Targets.{target_by}
 use Rattle.dwcheck_c.specs.Handles.{modules_of, opened_for}
 use Rattle.dwcheck_c.specs.declared.module.CModule.{CModule}
 use Rattle.dwcheck_c.specs.declared.module.SectionKind.{SectionKind}
-use Rattle.dwcheck_c.specs.declared.module.SectionKind.TheVariants.{DebugFrame, EhFrame, EhFrameAarch64, GoodEhFrame, GoodEhFrameAarch64}
+use Rattle.dwcheck_c.specs.declared.module.SectionKind.TheVariants.{DebugFrame, EhFrame, EhFrameAarch64, EhFrameLeavingOut, EhFrameAarch64LeavingOut}
 use Rattle.dwcheck_c.specs.declared.module.CLoaded.{CLoaded}
 
 -- the range that C gives for a module; None if it gives none
@@ -24,14 +24,14 @@ range_in m = if m.has_range == 0 then None else Some (record { first = m.first; 
 -- ---- its section
 
 -- What the section is, by C's number for it. 4 more than the number of an `.eh_frame` section says that
--- records are left out that are refused by themselves.
+-- bad records are left out.
 abbrev pub kind_by : ℕ → Option SectionKind
 kind_by n =
     if n == 0 then Some DebugFrame
     else if n == 1 then Some EhFrame
     else if n == 2 then Some EhFrameAarch64
-    else if n == 5 then Some GoodEhFrame
-    else if n == 6 then Some GoodEhFrameAarch64
+    else if n == 5 then Some EhFrameLeavingOut
+    else if n == 6 then Some EhFrameAarch64LeavingOut
     else None
 
 -- an address that C may give; 0 says that it gives none
@@ -51,24 +51,24 @@ abbrev pub IsAddedBy : SectionKind → CModule → ProcessState → ℕ → Proc
 IsAddedBy DebugFrame m old id new = IsAdded m.frame.now m.load_address (range_in m) m.cookie m.room old id new
 IsAddedBy EhFrame m old id new = IsEhAdded (eh_section_in false m) m.load_address (range_in m) m.cookie m.room old id new
 IsAddedBy EhFrameAarch64 m old id new = IsEhAdded (eh_section_in true m) m.load_address (range_in m) m.cookie m.room old id new
-IsAddedBy GoodEhFrame m old id new = IsGoodAdded (eh_section_in false m) m.load_address (range_in m) m.cookie m.room old id new
-IsAddedBy GoodEhFrameAarch64 m old id new = IsGoodAdded (eh_section_in true m) m.load_address (range_in m) m.cookie m.room old id new
+IsAddedBy EhFrameLeavingOut m old id new = IsAddedLeavingOut (eh_section_in false m) m.load_address (range_in m) m.cookie m.room old id new
+IsAddedBy EhFrameAarch64LeavingOut m old id new = IsAddedLeavingOut (eh_section_in true m) m.load_address (range_in m) m.cookie m.room old id new
 
 -- why it isn't added
 abbrev pub IsRefusedBy : SectionKind → CModule → Target → List LoadedModule → Refusal → Type 0
 IsRefusedBy DebugFrame m target modules why = IsRefused target m.frame.now m.load_address (range_in m) m.room modules why
 IsRefusedBy EhFrame m target modules why = IsEhRefused (eh_section_in false m) target m.load_address (range_in m) m.room modules why
 IsRefusedBy EhFrameAarch64 m target modules why = IsEhRefused (eh_section_in true m) target m.load_address (range_in m) m.room modules why
-IsRefusedBy GoodEhFrame m target modules why = IsGoodRefused (eh_section_in false m) target m.load_address (range_in m) m.room modules why
-IsRefusedBy GoodEhFrameAarch64 m target modules why = IsGoodRefused (eh_section_in true m) target m.load_address (range_in m) m.room modules why
+IsRefusedBy EhFrameLeavingOut m target modules why = IsRefusedLeavingOut (eh_section_in false m) target m.load_address (range_in m) m.room modules why
+IsRefusedBy EhFrameAarch64LeavingOut m target modules why = IsRefusedLeavingOut (eh_section_in true m) target m.load_address (range_in m) m.room modules why
 
 -- the first fault of the section, or of the section as a whole
 abbrev pub IsFaultBy : SectionKind → CModule → Target → Fault → Type 0
 IsFaultBy DebugFrame m target fault = section_fault target m.frame.now ≡ Some fault
 IsFaultBy EhFrame m target fault = IsEhFault (eh_section_in false m) target fault
 IsFaultBy EhFrameAarch64 m target fault = IsEhFault (eh_section_in true m) target fault
-IsFaultBy GoodEhFrame m target fault = IsGoodFault (eh_section_in false m) target fault
-IsFaultBy GoodEhFrameAarch64 m target fault = IsGoodFault (eh_section_in true m) target fault
+IsFaultBy EhFrameLeavingOut m target fault = IsWholeFault (eh_section_in false m) target fault
+IsFaultBy EhFrameAarch64LeavingOut m target fault = IsWholeFault (eh_section_in true m) target fault
 
 -- ---- added or not
 

@@ -12,7 +12,7 @@ use Rattle.dw_c_types.specs.Targets.{target_by}
 use Rattle.dwcheck_c.specs.LoadedModules.{eh_section_in, kind_by}
 use Rattle.dwcheck_c.specs.declared.module.CModule.{CModule}
 use Rattle.dwcheck_c.specs.declared.module.SectionKind.{SectionKind}
-use Rattle.dwcheck_c.specs.declared.module.SectionKind.TheVariants.{DebugFrame, EhFrame, EhFrameAarch64, GoodEhFrame, GoodEhFrameAarch64}
+use Rattle.dwcheck_c.specs.declared.module.SectionKind.TheVariants.{DebugFrame, EhFrame, EhFrameAarch64, EhFrameLeavingOut, EhFrameAarch64LeavingOut}
 use Rattle.dwcheck_c.specs.declared.records.CRecord.{CRecord}
 use Rattle.dwcheck_c.specs.declared.records.TheConstants.{RECORD_CIE, RECORD_FDE, RECORD_EMPTY}
 
@@ -112,15 +112,15 @@ abbrev pub IsReadBy : SectionKind → CModule → Target → ℕ → CRecord →
 IsReadBy DebugFrame m target at out = IsRecord m.frame.now target at out
 IsReadBy EhFrame m target at out = IsEhRecord (eh_section_in false m) target at out
 IsReadBy EhFrameAarch64 m target at out = IsEhRecord (eh_section_in true m) target at out
-IsReadBy GoodEhFrame m target at out = IsEhRecord (eh_section_in false m) target at out
-IsReadBy GoodEhFrameAarch64 m target at out = IsEhRecord (eh_section_in true m) target at out
+IsReadBy EhFrameLeavingOut m target at out = IsEhRecord (eh_section_in false m) target at out
+IsReadBy EhFrameAarch64LeavingOut m target at out = IsEhRecord (eh_section_in true m) target at out
 
 abbrev pub IsUnreadBy : SectionKind → CModule → Target → ℕ → Fault → Type 0
 IsUnreadBy DebugFrame m target at fault = IsNoRecord m.frame.now target at fault
 IsUnreadBy EhFrame m target at fault = IsNoEhRecord (eh_section_in false m) target at fault
 IsUnreadBy EhFrameAarch64 m target at fault = IsNoEhRecord (eh_section_in true m) target at fault
-IsUnreadBy GoodEhFrame m target at fault = IsNoEhRecord (eh_section_in false m) target at fault
-IsUnreadBy GoodEhFrameAarch64 m target at fault = IsNoEhRecord (eh_section_in true m) target at fault
+IsUnreadBy EhFrameLeavingOut m target at fault = IsNoEhRecord (eh_section_in false m) target at fault
+IsUnreadBy EhFrameAarch64LeavingOut m target at fault = IsNoEhRecord (eh_section_in true m) target at fault
 
 -- the module's section has a record at the offset, and `out` is C's struct for it
 pub record ShowsRecord (m : CModule) (at : ℕ) (out : CRecord) : Type 0 where

@@ -18,7 +18,9 @@ ghost use Rattle.dw_unwind.specs.MissingPlaces.{LacksPlace};
 ghost use Rattle.dwcheck_c.specs.WalkCursors.{IsStepBy, looked_up_by, registers_in};
 
 use crate::cursor::{CALLER, CCursor, Stepped, step_by_copy, step_uncovered};
-use crate::module::{CModule, EH_FRAME, EH_FRAME_AARCH64, GOOD_EH_FRAME, GOOD_EH_FRAME_AARCH64};
+use crate::module::{
+    CModule, EH_FRAME, EH_FRAME_AARCH64, EH_FRAME_AARCH64_LEAVING_OUT, EH_FRAME_LEAVING_OUT,
+};
 use dw_bytes::{Fault, FaultKind, Target};
 use dw_c_types::answer::CFrame;
 use dw_c_types::fault::{CFault, IN_FRAME, report};
@@ -83,8 +85,8 @@ fn is_aarch64(kind: u32) -> Option<bool>
     ensures { result ≡ is_aarch64_by kind }
 {
     match kind {
-        EH_FRAME | GOOD_EH_FRAME => Some(false),
-        EH_FRAME_AARCH64 | GOOD_EH_FRAME_AARCH64 => Some(true),
+        EH_FRAME | EH_FRAME_LEAVING_OUT => Some(false),
+        EH_FRAME_AARCH64 | EH_FRAME_AARCH64_LEAVING_OUT => Some(true),
         _ => None,
     }
 }

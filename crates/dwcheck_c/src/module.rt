@@ -21,13 +21,13 @@ pub const EH_FRAME: u32 = 1;
 
 pub const EH_FRAME_AARCH64: u32 = 2;
 
-/// What is added to the number of an `.eh_frame` section, so that the section isn't refused for a
-/// record that is refused by itself: such records are left out.
+/// Or'ed to the number of an `.eh_frame` section, so that bad records are left out instead of refusing
+/// the section.
 pub const LEAVE_OUT: u32 = 4;
 
-pub(crate) const GOOD_EH_FRAME: u32 = EH_FRAME + LEAVE_OUT;
+pub(crate) const EH_FRAME_LEAVING_OUT: u32 = EH_FRAME + LEAVE_OUT;
 
-pub(crate) const GOOD_EH_FRAME_AARCH64: u32 = EH_FRAME_AARCH64 + LEAVE_OUT;
+pub(crate) const EH_FRAME_AARCH64_LEAVING_OUT: u32 = EH_FRAME_AARCH64 + LEAVE_OUT;
 
 /// What a module's section is.
 #[derive(Clone, Copy)]
@@ -35,9 +35,9 @@ pub(crate) enum SectionKind {
     DebugFrame,
     EhFrame,
     EhFrameAarch64,
-    /// `.eh_frame`, of which records that are refused by themselves are left out.
-    GoodEhFrame,
-    GoodEhFrameAarch64,
+    /// `.eh_frame`, of which bad records are left out.
+    EhFrameLeavingOut,
+    EhFrameAarch64LeavingOut,
 }
 
 /// What the section is that C gives this number for; none if there is no such number.
@@ -48,8 +48,8 @@ pub(crate) fn section_kind(number: u32) -> Option<SectionKind>
         DEBUG_FRAME => Some(SectionKind::DebugFrame),
         EH_FRAME => Some(SectionKind::EhFrame),
         EH_FRAME_AARCH64 => Some(SectionKind::EhFrameAarch64),
-        GOOD_EH_FRAME => Some(SectionKind::GoodEhFrame),
-        GOOD_EH_FRAME_AARCH64 => Some(SectionKind::GoodEhFrameAarch64),
+        EH_FRAME_LEAVING_OUT => Some(SectionKind::EhFrameLeavingOut),
+        EH_FRAME_AARCH64_LEAVING_OUT => Some(SectionKind::EhFrameAarch64LeavingOut),
         _ => None,
     }
 }

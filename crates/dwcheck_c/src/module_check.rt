@@ -6,8 +6,8 @@ ghost use Rattle.dw_bytes.specs.declared.fault.Fault.{Fault};
 ghost use Rattle.dw_c_types.specs.Faults.{cfault_of};
 ghost use Rattle.dw_c_types.specs.Targets.{target_by};
 ghost use Rattle.dwcheck_c.specs.LoadedModules.{HasFault, IsFaultBy, kind_by};
-ghost use Rattle.dwcheck_c.specs.ModuleChecks.{AreCountsBy, AreCountsOf, IsEhAccepted, IsGoodAccepted};
-ghost use Rattle.dw_process.specs.EhModules.{IsEhFault, IsGoodFault};
+ghost use Rattle.dwcheck_c.specs.ModuleChecks.{AreCountsBy, AreCountsOf, IsEhAccepted, IsAcceptedLeavingOut};
+ghost use Rattle.dw_process.specs.EhModules.{IsEhFault, IsWholeFault};
 
 use crate::module::{CModule, SectionKind, section_kind};
 use crate::reports::{CCounts, frame_counted};
@@ -15,7 +15,7 @@ use dw_bytes::{Fault, FaultKind, Target};
 use dw_c_types::fault::{CFault, IN_FRAME, report};
 use dw_c_types::status::{BAD_KIND, BAD_TARGET, DONE, NO_MEMORY, REFUSED, TOO_LONG};
 use dw_c_types::target::target;
-use dw_eh_rows::{check_eh_frame, check_good_records};
+use dw_eh_rows::{check_eh_frame, check_eh_frame_leaving_out};
 use dw_process::EhSection;
 use dw_rows::check_frame;
 use std::alloc::Global;
@@ -35,24 +35,19 @@ fn eh_frame_counts(alloc: Global, section: EhSection<'_>, target: Target) -> Res
     Ok(frame_counted(&frame))
 }
 
-/// Checks an `.eh_frame` section without the records that are refused by themselves, and counts what
-/// is kept.
-fn good_frame_counts(
-    alloc: Global,
-    section: EhSection<'_>,
-    target: Target,
-) -> Result<CCounts, Fault>
+/// Checks an `.eh_frame` section without its bad records, and counts what is kept.
+fn kept_counts(alloc: Global, section: EhSection<'_>, target: Target) -> Result<CCounts, Fault>
     requires { length section.bytes.now < 2 ^ 32 }
-    ensures accepted { IfOk result (IsGoodAccepted section.entry target) }
-    ensures refused { IfErr result (λ fault. (fault ≡ memory) ⊎ IsGoodFault section.entry target fault) }
+    ensures accepted { IfOk result (IsAcceptedLeavingOut section.entry target) }
+    ensures refused { IfErr result (λ fault. (fault ≡ memory) ⊎ IsWholeFault section.entry target fault) }
 {
     let EhSection {
         bytes,
         bases,
         is_aarch64,
     } = section;
-    let good = check_good_records(alloc, bytes, target, bases, is_aarch64)?;
-    Ok(frame_counted(&good.frame))
+    let kept = check_eh_frame_leaving_out(alloc, bytes, target, bases, is_aarch64)?;
+    Ok(frame_counted(&kept.frame))
 }
 
 /// Checks a module's section, and counts what it contains.
@@ -74,9 +69,9 @@ fn counts_by(
         }
         SectionKind::EhFrame => eh_frame_counts(alloc, module.eh_section(false), target),
         SectionKind::EhFrameAarch64 => eh_frame_counts(alloc, module.eh_section(true), target),
-        SectionKind::GoodEhFrame => good_frame_counts(alloc, module.eh_section(false), target),
-        SectionKind::GoodEhFrameAarch64 => {
-            good_frame_counts(alloc, module.eh_section(true), target)
+        SectionKind::EhFrameLeavingOut => kept_counts(alloc, module.eh_section(false), target),
+        SectionKind::EhFrameAarch64LeavingOut => {
+            kept_counts(alloc, module.eh_section(true), target)
         }
     }
 }

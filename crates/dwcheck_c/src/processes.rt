@@ -62,13 +62,13 @@ fn add_section(
             let section = module.eh_section(true);
             process.add_eh_frame(alloc, section, load_address, range, cookie, room)
         }
-        SectionKind::GoodEhFrame => {
+        SectionKind::EhFrameLeavingOut => {
             let section = module.eh_section(false);
-            process.add_good_records(alloc, section, load_address, range, cookie, room)
+            process.add_eh_frame_leaving_out(alloc, section, load_address, range, cookie, room)
         }
-        SectionKind::GoodEhFrameAarch64 => {
+        SectionKind::EhFrameAarch64LeavingOut => {
             let section = module.eh_section(true);
-            process.add_good_records(alloc, section, load_address, range, cookie, room)
+            process.add_eh_frame_leaving_out(alloc, section, load_address, range, cookie, room)
         }
     }
 }

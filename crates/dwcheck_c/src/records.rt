@@ -195,10 +195,10 @@ fn record_by(
 {
     match kind {
         SectionKind::DebugFrame => debug_frame_record(module.frame, target, at),
-        SectionKind::EhFrame | SectionKind::GoodEhFrame => {
+        SectionKind::EhFrame | SectionKind::EhFrameLeavingOut => {
             eh_frame_record(module.eh_section(false), target, at)
         }
-        SectionKind::EhFrameAarch64 | SectionKind::GoodEhFrameAarch64 => {
+        SectionKind::EhFrameAarch64 | SectionKind::EhFrameAarch64LeavingOut => {
             eh_frame_record(module.eh_section(true), target, at)
         }
     }

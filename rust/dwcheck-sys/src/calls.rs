@@ -54,11 +54,11 @@ extern "C" {
     ) -> u32;
 
     /// Checks a module's section whose kind has LEAVE_OUT. DONE writes the number of records that are left out to
-    /// `count`, and the fault of each to `faults`, as many as fit.
+    /// `count`, and the records to `left_out`, as many as fit.
     pub fn dwcheck_module_left_out(
         module: *const Module,
-        faults: *mut Fault,
-        faults_length: usize,
+        left_out: *mut LeftOut,
+        left_out_length: usize,
         count: *mut usize,
         fault: *mut Fault,
     ) -> u32;

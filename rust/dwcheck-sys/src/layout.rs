@@ -42,6 +42,7 @@ fn layouts() -> (String, String) {
     let all = [
         layout!(Fault, "dwcheck_fault": number offset within reserved),
         layout!(Counts, "dwcheck_counts": cies fdes rows frame_expressions tables lists list_expressions),
+        layout!(LeftOut, "dwcheck_left_out": offset fault),
         layout!(Record, "dwcheck_record": next program cie start end code_alignment_factor data_alignment_factor
             kind version return_reg is_signal_frame),
         layout!(Expression, "dwcheck_expression": offset length within kind operations depth),

@@ -88,6 +88,14 @@ pub struct Fault {
     pub reserved: u32,
 }
 
+/// A record that is left out of a section: the offset of its first byte, and the first reason why.
+#[repr(C)]
+#[derive(Clone, Copy, Debug, Default)]
+pub struct LeftOut {
+    pub offset: u64,
+    pub fault: Fault,
+}
+
 /// What two sections contain. A number of rows of 2^64 or more is shown as 2^64 - 1.
 #[repr(C)]
 #[derive(Clone, Copy, Debug, Default)]
@@ -150,7 +158,7 @@ pub const DEBUG_FRAME: u32 = 0;
 pub const EH_FRAME: u32 = 1;
 /// .eh_frame of aarch64, which has instructions of its own.
 pub const EH_FRAME_AARCH64: u32 = 2;
-/// Added to the number of an .eh_frame section: records that are refused by themselves are left out.
+/// Or'ed to the number of an .eh_frame section: bad records are left out instead of refusing the section.
 pub const LEAVE_OUT: u32 = 4;
 
 pub const RECORD_CIE: u32 = 0;

@@ -92,6 +92,26 @@ pub enum RecordKind {
     Other(u32),
 }
 
+/// A record that is [left out](FrameSection::left_out) of a section.
+#[derive(Clone, Debug, PartialEq, Eq)]
+#[non_exhaustive]
+pub struct LeftOutRecord {
+    /// The offset of its first byte in the section.
+    pub offset: u64,
+    /// The first reason why it is left out. The fault's own offset may be at the record's end, where the
+    /// next one begins. An FDE whose CIE isn't kept has `NoSuchCie` at its CIE pointer.
+    pub fault: Fault,
+}
+
+impl LeftOutRecord {
+    fn of(raw: &ffi::LeftOut) -> LeftOutRecord {
+        LeftOutRecord {
+            offset: raw.offset,
+            fault: Fault::of(raw.fault),
+        }
+    }
+}
+
 impl<'a> FrameSection<'a> {
     /// A `.debug_frame` section.
     pub const fn debug_frame(bytes: &'a [u8], target: Target) -> Self {
@@ -143,15 +163,13 @@ impl<'a> FrameSection<'a> {
         })
     }
 
-    /// The fault of each record that is left out of an `.eh_frame` section
-    /// [without refused records](EhFrame::without_refused_records), in the order of the section: the
-    /// first one for which the record can't be used. An FDE whose CIE isn't kept has `NoSuchCie` at its
-    /// CIE pointer. Any other section leaves nothing out. The call checks the section twice if it leaves
-    /// something out.
+    /// The records that are left out of an `.eh_frame` section which
+    /// [leaves out bad records](EhFrame::leave_out_bad_records), in the order of the section. Any other
+    /// section leaves nothing out. If something is left out, the section is checked twice.
     ///
     /// # Errors
     ///
-    /// Those of [`check`](FrameSection::check).
+    /// Those of [`check`](FrameSection::check). A fault is that of the section as a whole.
     ///
     /// ```
     /// use dwcheck::{EhFrame, FaultKind, FrameSection, Target};
@@ -164,29 +182,30 @@ impl<'a> FrameSection<'a> {
     /// let section = FrameSection::eh_frame(&bytes, EhFrame::at(0x2000), Target::LITTLE_64);
     /// assert!(section.check().is_err());
     ///
-    /// let section = EhFrame::at(0x2000).without_refused_records();
+    /// let section = EhFrame::at(0x2000).leave_out_bad_records();
     /// let section = FrameSection::eh_frame(&bytes, section, Target::LITTLE_64);
     /// assert_eq!(section.check()?.fdes, 0);
     /// let left_out = section.left_out()?;
-    /// assert_eq!(left_out[0].kind, FaultKind::UnknownInstruction);
-    /// assert_eq!((left_out[1].kind, left_out[1].offset), (FaultKind::NoSuchCie, 28));
+    /// assert_eq!(left_out[0].offset, 0);
+    /// assert_eq!(left_out[0].fault.kind, FaultKind::UnknownInstruction);
+    /// assert_eq!((left_out[1].offset, left_out[1].fault.kind), (24, FaultKind::NoSuchCie));
     /// # Ok::<(), dwcheck::Error>(())
     /// ```
-    pub fn left_out(&self) -> Result<Vec<Fault>, Error> {
+    pub fn left_out(&self) -> Result<Vec<LeftOutRecord>, Error> {
         let section = self.module.eh_frame.as_ref();
-        if !section.map_or(false, |section| section.leaves_refused_out) {
+        if !section.map_or(false, |section| section.leaves_out_bad_records) {
             return self.check().map(|_| Vec::new());
         }
-        let mut faults = vec![ffi::Fault::default(); self.write_left_out(&mut [])?];
-        self.write_left_out(&mut faults)?;
-        Ok(faults.into_iter().map(Fault::of).collect())
+        let mut found = vec![ffi::LeftOut::default(); self.write_left_out(&mut [])?];
+        self.write_left_out(&mut found)?;
+        Ok(found.iter().map(LeftOutRecord::of).collect())
     }
 
-    /// Writes the faults of records that are left out, as many as fit. Returns how many there are.
-    fn write_left_out(&self, faults: &mut [ffi::Fault]) -> Result<usize, Error> {
+    /// Writes records that are left out, as many as fit. Returns how many there are.
+    fn write_left_out(&self, places: &mut [ffi::LeftOut]) -> Result<usize, Error> {
         let mut count = 0;
         let module = self.module.raw(self.bytes, self.target);
-        let (place, length) = (faults.as_mut_ptr(), faults.len());
+        let (place, length) = (places.as_mut_ptr(), places.len());
         // SAFETY: the section is only read, and all other pointers are to locals or borrowed exclusively.
         Error::of_call(|fault| unsafe {
             ffi::dwcheck_module_left_out(&module, place, length, &mut count, fault)

@@ -78,7 +78,7 @@ pub use expression::{
     evaluate, Context, Evaluation, ExpressionKind, Location, Outcome, Piece, PieceSize,
 };
 pub use fault::{Error, Fault, FaultKind, Section};
-pub use frame_section::{Contents, FrameSection, Record, RecordKind, Records};
+pub use frame_section::{Contents, FrameSection, LeftOutRecord, Record, RecordKind, Records};
 #[cfg(feature = "dl")]
 pub use here::{here, know_own_stack, OwnFrame, OwnStack, MOST_FRAMES};
 pub use in_place::EhFrameInPlace;

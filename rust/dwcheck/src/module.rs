@@ -48,9 +48,9 @@ pub struct EhFrame {
     pub data_start: Option<NonZeroU64>,
     /// Whether the section is for aarch64, which has instructions of its own.
     pub is_aarch64: bool,
-    /// Whether records that are refused by themselves are left out; see
-    /// [`without_refused_records`](EhFrame::without_refused_records).
-    pub leaves_refused_out: bool,
+    /// Whether bad records are left out instead of refusing the section; see
+    /// [`leave_out_bad_records`](EhFrame::leave_out_bad_records).
+    pub leaves_out_bad_records: bool,
 }
 
 impl EhFrame {
@@ -61,7 +61,7 @@ impl EhFrame {
             text_start: None,
             data_start: None,
             is_aarch64: false,
-            leaves_refused_out: false,
+            leaves_out_bad_records: false,
         }
     }
 
@@ -72,15 +72,18 @@ impl EhFrame {
         self
     }
 
-    /// The same section, but one bad record doesn't refuse it: each record is left out that can't be
-    /// read, is an FDE whose CIE is left out or isn't there, or has a fault in its program. All others
-    /// keep their rows. [`FrameSection::left_out`](crate::FrameSection::left_out) lists the faults.
+    /// The same section, but bad records are left out instead of refusing it. A record is bad if it
+    /// can't be read, if it is an FDE whose CIE is missing or bad, or if its program has a fault. All
+    /// others keep their rows. [`FrameSection::left_out`](crate::FrameSection::left_out) lists the bad
+    /// ones. A walk ends at a function without rows. Pass the module's range: without one it is that of
+    /// what is kept.
     ///
-    /// A record's length that can't be read is still a fault of the section, and so are two FDEs that
-    /// are kept and cover one address. A section without a fault is the same with it as without it.
+    /// Two faults are still the section's: a record's length that is reserved or goes past the section's
+    /// end, and two FDEs that are kept and cover one address. A wrong length that stays inside the
+    /// section is believed. If the section has no fault, this changes nothing.
     #[must_use]
-    pub fn without_refused_records(mut self) -> EhFrame {
-        self.leaves_refused_out = true;
+    pub fn leave_out_bad_records(mut self) -> EhFrame {
+        self.leaves_out_bad_records = true;
         self
     }
 
@@ -91,8 +94,8 @@ impl EhFrame {
         } else {
             ffi::EH_FRAME
         };
-        if self.leaves_refused_out {
-            kind + ffi::LEAVE_OUT
+        if self.leaves_out_bad_records {
+            kind | ffi::LEAVE_OUT
         } else {
             kind
         }
