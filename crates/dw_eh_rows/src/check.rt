@@ -50,6 +50,7 @@ fn check_all_records<'a>(
 /// `eh_records`; a fault of a program, as `check_cie` and `check_fde` of `dw_rows` report it;
 /// `Overlap` (23) at the first FDE of the section that shares an address with an earlier one.
 /// `Memory` (60) has offset 0.
+#[inline(never)]
 #[tactic(auto, unfolding(crate::specs::Section::eh_section_fault))]
 pub fn check_eh_frame<'a>(
     alloc: Global,

@@ -195,6 +195,7 @@ fn split_record<'a>(
 }
 
 /// Reads the records of a section, and splits them. Only a length is an error.
+#[inline(never)]
 fn split_records_of<'a>(
     alloc: Global,
     section: &'a [u8],
@@ -253,7 +254,9 @@ pub struct KeptRecords<'a> {
     pub left_out: Vec<LeftOutRecord>,
 }
 
-/// The check of a section that isn't accepted.
+/// The check of a section that isn't accepted. This function isn't inlined: so it takes no stack beside
+/// that of the check before it.
+#[inline(never)]
 #[tactic(auto, unfolding(crate::specs::KeptRecords::whole_fault))]
 fn leave_bad_out<'a>(
     alloc: Global,
