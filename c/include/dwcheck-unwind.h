@@ -256,6 +256,25 @@ int unw_backtrace(void **addresses, int size);
 /* The same from a context, whose own address is the first. */
 int unw_backtrace2(void **addresses, int size, unw_context_t *context, int flag);
 
+/* ---- other processes --------------------------------------------------------------------------------------------- */
+/* The accessors of a process that ptrace has stopped, in libunwind-ptrace.so.0; `context` is what _UPT_create returns. */
+void *_UPT_create(int process);
+void _UPT_destroy(void *context);
+int _UPT_find_proc_info(unw_addr_space_t space, unw_word_t address, unw_proc_info_t *info, int need_unwind_info, void *context);
+void _UPT_put_unwind_info(unw_addr_space_t space, unw_proc_info_t *info, void *context);
+int _UPT_get_dyn_info_list_addr(unw_addr_space_t space, unw_word_t *address, void *context);
+int _UPT_access_mem(unw_addr_space_t space, unw_word_t address, unw_word_t *value, int is_write, void *context);
+int _UPT_access_reg(unw_addr_space_t space, unw_regnum_t number, unw_word_t *value, int is_write, void *context);
+int _UPT_access_fpreg(unw_addr_space_t space, unw_regnum_t number, unw_fpreg_t *value, int is_write, void *context);
+int _UPT_get_proc_name(unw_addr_space_t space, unw_word_t address, char *name, size_t size, unw_word_t *offset, void *context);
+int _UPT_resume(unw_addr_space_t space, unw_cursor_t *cursor, void *context);
+extern unw_accessors_t _UPT_accessors;
+
+/* Searches a table of another process, in a find_proc_info. `unwind_info` becomes the address of the FDE there. */
+#define dwarf_search_unwind_table _ULx86_64_dwarf_search_unwind_table
+int dwarf_search_unwind_table(unw_addr_space_t space, unw_word_t address, unw_dyn_info_t *table, unw_proc_info_t *info,
+                              int need_unwind_info, void *context);
+
 /* By what the frame was found at which a cursor is: 0 if it was by the row of the frame that it called, else by one of
    libunwind's guesses, which is made where no row covers the address. Not in libunwind. */
 typedef enum {

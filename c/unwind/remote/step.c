@@ -1,0 +1,114 @@
+/* Steps of a cursor of another process: by a kept row, or by the records to which the caller's find_proc_info leads, or by a
+   guess where there are none. */
+#include "remote.h"
+
+#include <string.h>
+
+int dwcheck_remote_find(unw_addr_space_t space, uint64_t address, unw_proc_info_t *info, int need_unwind_info, void *context) {
+    const unw_accessors_t *accessors = &space->accessors;
+    memset(info, 0, sizeof *info);
+    return accessors->find_proc_info ? accessors->find_proc_info(space, address, info, need_unwind_info, context) : -UNW_ENOINFO;
+}
+
+/* The accessor has it from dwarf_search_unwind_table: unwind_info is the address of the FDE, in the other process. */
+int dwcheck_remote_find_fde(unw_addr_space_t space, uint64_t address, unw_proc_info_t *info, void *context) {
+    const int result = dwcheck_remote_find(space, address, info, 1, context);
+    if (result < 0) return result;
+    const bool is_table = info->format == UNW_INFO_FORMAT_TABLE || info->format == UNW_INFO_FORMAT_REMOTE_TABLE;
+    return is_table && info->unwind_info ? 0 : -UNW_ENOINFO;
+}
+
+/* A step by the records of an address, as they are copied. */
+struct by_record { struct remote_cursor *walk; struct words *words; uint64_t key; const unw_proc_info_t *info; };
+
+/* The function's addresses are those of its FDE, plus what the table's load_offset is. */
+static int step_by_copy(void *data, const struct record *record) {
+    const struct by_record *step = data;
+    dwcheck_record fde;
+    if (!dwcheck_remote_fde(record, &fde)) return -UNW_EBADFRAME;
+    return dwcheck_remote_step_by_record(step->walk, step->words, step->key, step->info->start_ip - fde.start, record);
+}
+
+/* Takes a step by the FDE of the address `key` - 1. */
+int dwcheck_remote_step_by_search(struct remote_cursor *walk, struct words *words, uint64_t key) {
+    unw_proc_info_t info;
+    dwcheck_remote_begin_step();
+    const int result = dwcheck_remote_find_fde(walk->space, key - 1, &info, walk->context);
+    if (result < 0) return result;
+    struct by_record step = {walk, words, key, &info};
+    return dwcheck_remote_with_record(words, (uint64_t)info.unwind_info, step_by_copy, &step);
+}
+
+/* The caller's registers are where the row says that they are saved. */
+static void move_places(struct remote_cursor *walk, const struct facts *facts, uint64_t cfa) {
+    for (int i = 0; i < facts->count; i++) {
+        walk->places[facts->saved[i].number] = (struct place){cfa + (uint64_t)(int64_t)facts->saved[i].offset, PLACE_MEMORY};
+        walk->frame.known &= ~(1u << facts->saved[i].number);
+    }
+    for (uint32_t left = facts->undefined; left; left &= left - 1) walk->places[__builtin_ctz(left)] = (struct place){0, PLACE_NONE};
+    walk->frame.known &= ~facts->undefined;
+}
+
+enum { BY_SEARCH = 2 }; /* besides what unw_step returns: there is no kept row any more */
+
+/* What a step by a kept row reads is the return address, below the CFA, and rbp, if the CFA is counted from it. So only these
+   are asked for. rbp is passed as a register that is saved where nothing can be read, unless the row needs it. */
+static int step_by_kept_row(struct remote_cursor *walk, struct words *words, const struct facts *facts) {
+    struct frame *frame = &walk->frame;
+    if (!dwcheck_remote_fetch(walk, words, facts->cfa_register)) return dwcheck_remote_error(words);
+    const uint64_t cfa = frame->values[facts->cfa_register] + (uint64_t)(int64_t)facts->cfa_offset;
+    const uint64_t returns_at = cfa + (uint64_t)(int64_t)facts->return_offset;
+    uint64_t word = 0;
+    if (facts->has_return && !dwcheck_remote_ask(words, returns_at, &word)) return dwcheck_remote_error(words);
+    const dwcheck_block block = {returns_at, (const uint8_t *)&word, facts->has_return ? sizeof word : 0};
+    const bool is_needed = facts->cfa_register == RBP;
+    dwcheck_place place = {.address = frame->values[RIP], .key = frame->key, .stack_pointer = frame->values[RSP],
+                           .frame_pointer = is_needed ? frame->values[RBP] : UINT64_MAX, .is_saved = !is_needed};
+    const uint32_t stop = dwcheck_remote_walk(walk->space, &place, &block);
+    if (stop == DWCHECK_STOP_RETURN_UNDEFINED) return dwcheck_unwind_end(frame);
+    if (stop != DWCHECK_STOP_LIMIT) return BY_SEARCH;
+    move_places(walk, facts, cfa);
+    walk->places[RIP] = (struct place){returns_at, PLACE_MEMORY};
+    frame->values[RIP] = place.address, frame->key = place.key, frame->values[RSP] = place.stack_pointer;
+    frame->known |= 1u << RIP | 1u << RSP;
+    frame->guess = UNW_GUESS_NONE, frame->is_interrupted = 0;
+    return 1;
+}
+
+/* Takes a step by what is kept for the address, or by a search. */
+static int step(struct remote_cursor *walk, struct words *words) {
+    struct facts facts;
+    struct kept_record kept;
+    int result = BY_SEARCH;
+    switch (dwcheck_remote_kept(walk->space, walk->frame.key, &facts, &kept)) {
+    case KEPT_ROW: result = step_by_kept_row(walk, words, &facts); break;
+    case KEPT_RECORD:
+        return dwcheck_remote_step_by_record(walk, words, walk->frame.key, kept.load_address, &kept.record);
+    case KEPT_NOTHING: break;
+    }
+    return result == BY_SEARCH ? dwcheck_remote_step_by_search(walk, words, walk->frame.key) : result;
+}
+
+static int guess(struct remote_cursor *walk, struct words *words) {
+    const struct word_reader memory = {dwcheck_remote_read, words};
+    dwcheck_remote_fetch(walk, words, RBP);
+    return dwcheck_unwind_guess(&walk->frame, walk->places, &memory);
+}
+
+int dwcheck_remote_step(unw_cursor_t *cursor) {
+    struct remote_cursor *own = dwcheck_remote_cursor(cursor);
+    if (!own) return -UNW_EINVAL;
+    if (own->frame.is_last) return 0;
+    struct remote_cursor walk = *own;
+    struct words words;
+    dwcheck_remote_begin(&words, walk.space, walk.context);
+    int result = walk.frame.key == 0 ? -UNW_ENOINFO : step(&walk, &words);
+    if (result == -UNW_ENOINFO) result = guess(&walk, &words);
+    if (result > 0 && walk.frame.key == 0) result = dwcheck_unwind_end(&walk.frame); /* where some threads begin */
+    if (result > 0 && walk.frame.values[RIP] == own->frame.values[RIP] && walk.frame.values[RSP] == own->frame.values[RSP])
+        return -UNW_EBADFRAME;
+    if (result < 0) return result;
+    walk.changes++;
+    *own = walk;
+    return result;
+}
