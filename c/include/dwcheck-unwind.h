@@ -1,17 +1,26 @@
-/* dwcheck-unwind: libunwind's calls for the stack of the running process, over the walks of dwcheck.h. The libraries
-   build/unwind/libunwind.so.8 and libunwind-x86_64.so.8 have the names and the binary interface of libunwind 1.6 and 1.8
-   for x86-64 Linux with glibc 2.35 or later: a program that is linked to libunwind uses them by its library path alone.
+/* dwcheck-unwind: libunwind's calls for the stacks of the running process and of others, over the walks of dwcheck.h. The
+   libraries build/unwind/libunwind.so.8, libunwind-x86_64.so.8 and libunwind-ptrace.so.0 have the names and the binary
+   interface of libunwind 1.6 and 1.8 for x86-64 Linux with glibc 2.35 or later: a program that is linked to libunwind uses
+   them by its library path alone.
    This header is for programs that are built new; it declares the same names and types as <libunwind.h>, so a file
    includes one of the two. The rows of frames are looked up and walked by proved calls; the rest is plain C, which is
    tested and not proved.
 
-   A call that fails returns the negative of a number below. Any thread may make the calls, also in a signal handler, but
-   for _U_dyn_register and _U_dyn_cancel. They neither allocate nor lock, and take up to 4 KB of stack. A handler that
-   leaves a call by siglongjmp takes one of 64 caches away; without a free one a call returns -UNW_ENOMEM.
+   A call that fails returns the negative of a number below. Of the running process, any thread may make the calls, also in a
+   signal handler, but for _U_dyn_register and _U_dyn_cancel. They neither allocate nor lock, and take up to 4 KB of stack. A
+   handler that leaves a call by siglongjmp takes one of 64 caches away; without a free one a call returns -UNW_ENOMEM.
+
+   Another process is read by the caller's accessors alone, which return what a call then returns where they fail. An accessor
+   may give wrong values, make any call, also with the cursor of the call that asks, or leave that by longjmp, and then the
+   cursor is as it was. A step asks for each word once. It copies an FDE and its CIE, of at most 64 KB each, and keeps the rows
+   that it finds in memory of the heap, in up to 1 MB for an address space, unless the policy is UNW_CACHE_NONE. A step takes up
+   to 60 KB of stack, and with such records 200 KB. Threads may use one address space at once.
 
    How the calls differ from libunwind's:
-   - Another process can't be walked: unw_create_addr_space returns NULL, unw_init_remote takes the local address space
-     alone, and the search of tables (dwarf_search_unwind_table and such) returns -UNW_ENOINFO.
+   - Of another process: unw_proc_info_t's unwind_info is the address of the FDE there, and nothing to be freed. Functions that
+     the process has registered aren't looked for, records with a length of eight bytes aren't read, rows are looked for in
+     .eh_frame alone (dwarf_find_debug_frame finds nothing), unw_get_elf_filename returns -UNW_ENOINFO, and UNW_CACHE_PER_THREAD
+     is UNW_CACHE_GLOBAL. Core files (libunwind-coredump) aren't read.
    - A cursor that unw_init_local hasn't filled in, or a null pointer in place of one, is refused: -UNW_EINVAL.
    - At a frame whose FDE the library refuses, or has no room for (dwcheck_row_in: an expression of more than 16 bytes), a
      step returns -UNW_EBADFRAME.
