@@ -316,15 +316,15 @@ unwind_input() { # builds the tests of these calls with bad input, and runs them
 
 build_unwind_remote() { # FLAG..: builds the tests of these calls for other processes
     cc -std=gnu11 -D_GNU_SOURCE $strict -O2 -g "$@" "$top/c/tests/unwind_remote.c" "$unwind/libunwind-ptrace.so.0" \
-        "$unwind/libunwind.so.8" "-Wl,-rpath,$unwind" -o "$out/unwind_remote" -pthread
+        "$unwind/libunwind.so.8" "-Wl,-rpath,$unwind" -o "$out/unwind_remote" -pthread -ldl
 }
 
 unwind_remote() {
-    build_unwind_remote "$@" && "$out/unwind_remote"
+    build_unwind_remote "$@" && "$out/unwind_remote" "$(of_libunwind libunwind-x86_64.so.8)"
 }
 
 unwind_remote_under_valgrind() {
-    build_unwind_remote && valgrind -q --error-exitcode=1 --leak-check=full "$out/unwind_remote"
+    build_unwind_remote && valgrind -q --error-exitcode=1 --leak-check=full "$out/unwind_remote" "$(of_libunwind libunwind-x86_64.so.8)"
 }
 
 unwind() { # builds these tests and runs them beside libunwind

@@ -1,8 +1,10 @@
-/* Tests of libunwind's calls for other processes, with accessors that do what they shouldn't. The process is this one, whose
-   memory they read as that of another: so its frames are known from the C library's backtrace. Prints a line for each failure,
-   and at the end a line with counts. */
+/* Tests of libunwind's calls for other processes, beside libunwind's own, and with accessors that do what they shouldn't. The
+   process is this one, whose memory they read as that of another: so its frames are known from the C library's backtrace.
+   Prints a line for each failure, and at the end a line with counts.
+   usage: unwind_remote LIBUNWIND     the path of libunwind's own libunwind-x86_64.so.8 */
 #include "dwcheck-unwind.h"
 
+#include <dlfcn.h>
 #include <execinfo.h>
 #include <link.h>
 #include <pthread.h>
@@ -46,6 +48,7 @@ static struct {
     jmp_buf out;
     uint64_t words[MOST_WORDS_OF_A_STEP]; /* that the step has asked for */
     size_t count;
+    bool is_silent; /* words may be asked for twice */
 } target;
 
 static int make_trouble(unw_word_t *value) {
@@ -68,7 +71,7 @@ static int access_mem(unw_addr_space_t space, unw_word_t address, unw_word_t *va
     struct iovec here = {value, sizeof *value}, there = {(void *)address, sizeof *value};
     (void)space, (void)context;
     if (is_write) return -UNW_EINVAL;
-    if (target.trouble != LIES) note(address);
+    if (target.trouble != LIES && !target.is_silent) note(address);
     if (process_vm_readv(getpid(), &here, 1, &there, 1, 0) != (ssize_t)sizeof *value) return -UNW_EINVAL;
     const bool is_now = target.trouble == LIES ? any() % 16 == 0 : target.asked == target.trouble_at;
     target.asked++;
@@ -104,11 +107,14 @@ static int find_table(struct dl_phdr_info *info, size_t size, void *data) {
     return 1;
 }
 
+/* The search: ours or libunwind's. */
+static int (*search_table)(unw_addr_space_t, unw_word_t, unw_dyn_info_t *, unw_proc_info_t *, int, void *) = dwarf_search_unwind_table;
+
 static int find_proc_info(unw_addr_space_t space, unw_word_t address, unw_proc_info_t *info, int need_unwind_info, void *context) {
     struct wanted wanted = {.address = address};
     target.searches++;
     if (!dl_iterate_phdr(find_table, &wanted)) return -UNW_ENOINFO;
-    return dwarf_search_unwind_table(space, address, &wanted.table, info, need_unwind_info, context);
+    return search_table(space, address, &wanted.table, info, need_unwind_info, context);
 }
 
 static unw_accessors_t accessors = {.find_proc_info = find_proc_info, .access_mem = access_mem, .access_reg = access_reg};
@@ -161,6 +167,91 @@ static void a_walk_has_the_frames(unw_caching_policy_t policy, long searches_of_
         begin(&cursor, space, NO_TROUBLE, -1);
         frames_are_right(&cursor, 0);
         IS(target.searches, walk == 1 ? searches_of_a_second_walk : frame_count);
+    }
+    unw_destroy_addr_space(space);
+}
+
+/* ---- beside libunwind ---- */
+
+static struct {
+    unw_addr_space_t (*create_addr_space)(unw_accessors_t *, int);
+    int (*init_remote)(unw_cursor_t *, unw_addr_space_t, void *);
+    int (*step)(unw_cursor_t *);
+    int (*get_reg)(unw_cursor_t *, int, unw_word_t *);
+    int (*get_save_loc)(unw_cursor_t *, int, unw_save_loc_t *);
+    int (*is_signal_frame)(unw_cursor_t *);
+    int (*get_proc_info)(unw_cursor_t *, unw_proc_info_t *);
+    int (*search)(unw_addr_space_t, unw_word_t, unw_dyn_info_t *, unw_proc_info_t *, int, void *);
+} theirs;
+
+static void *call_of(void *library, const char *name) {
+    void *call = dlsym(library, name);
+    if (!call) printf("libunwind has no %s\n", name), exit(2);
+    return call;
+}
+
+static void load(const char *path) {
+    void *library = dlopen(path, RTLD_NOW | RTLD_LOCAL | RTLD_DEEPBIND);
+    if (!library) printf("%s\n", dlerror()), exit(2);
+    *(void **)&theirs.create_addr_space = call_of(library, "_Ux86_64_create_addr_space");
+    *(void **)&theirs.init_remote = call_of(library, "_Ux86_64_init_remote");
+    *(void **)&theirs.step = call_of(library, "_Ux86_64_step");
+    *(void **)&theirs.get_reg = call_of(library, "_Ux86_64_get_reg");
+    *(void **)&theirs.get_save_loc = call_of(library, "_Ux86_64_get_save_loc");
+    *(void **)&theirs.is_signal_frame = call_of(library, "_Ux86_64_is_signal_frame");
+    *(void **)&theirs.get_proc_info = call_of(library, "_Ux86_64_get_proc_info");
+    *(void **)&theirs.search = call_of(library, "_Ux86_64_dwarf_search_unwind_table");
+}
+
+static void registers_are_the_same(unw_cursor_t *our_cursor, unw_cursor_t *their_cursor) {
+    for (int number = 0; number <= UNW_REG_LAST; number++) {
+        unw_word_t our_value = 0, their_value = 0;
+        const int our_result = unw_get_reg(our_cursor, number, &our_value);
+        const int their_result = theirs.get_reg(their_cursor, number, &their_value);
+        IS(our_result < 0, their_result < 0);
+        if (our_result == 0 && their_result == 0) IS(our_value, their_value);
+        unw_save_loc_t our_place, their_place;
+        IS(unw_get_save_loc(our_cursor, number, &our_place), theirs.get_save_loc(their_cursor, number, &their_place));
+        IS(our_place.type, their_place.type);
+        if (our_place.type == UNW_SLT_MEMORY) IS(our_place.u.addr, their_place.u.addr);
+        if (our_place.type == UNW_SLT_REG) IS(our_place.u.regnum, their_place.u.regnum);
+    }
+}
+
+static void functions_are_the_same(unw_cursor_t *our_cursor, unw_cursor_t *their_cursor) {
+    unw_proc_info_t our_info, their_info;
+    search_table = theirs.search;
+    IS(theirs.get_proc_info(their_cursor, &their_info), 0);
+    search_table = dwarf_search_unwind_table;
+    target.count = 0;
+    IS(unw_get_proc_info(our_cursor, &our_info), 0);
+    IS(our_info.start_ip, their_info.start_ip);
+    IS(our_info.end_ip, their_info.end_ip);
+    IS(our_info.lsda, their_info.lsda);
+    IS(our_info.handler, their_info.handler);
+}
+
+/* libunwind asks for words more than once. */
+static void frames_are_those_of_libunwind(unw_caching_policy_t policy) {
+    static unw_accessors_t all;
+    unw_addr_space_t space = new_space(policy);
+    unw_cursor_t our_cursor, their_cursor;
+    int our_result = 1, their_result = 1;
+    all = accessors;
+    unw_addr_space_t their_space = theirs.create_addr_space(&all, 0);
+    begin(&our_cursor, space, NO_TROUBLE, -1);
+    IS(theirs.init_remote(&their_cursor, their_space, NULL), 0);
+    while (our_result > 0 && their_result > 0) {
+        target.is_silent = true;
+        functions_are_the_same(&our_cursor, &their_cursor);
+        registers_are_the_same(&our_cursor, &their_cursor);
+        search_table = theirs.search;
+        their_result = theirs.step(&their_cursor);
+        search_table = dwarf_search_unwind_table;
+        target.is_silent = false;
+        our_result = step(&our_cursor);
+        IS(our_result, their_result);
+        IS(unw_is_signal_frame(&our_cursor), theirs.is_signal_frame(&their_cursor));
     }
     unw_destroy_addr_space(space);
 }
@@ -318,7 +409,7 @@ static int read_only(unw_addr_space_t space, unw_word_t address, unw_word_t *val
 static int find_only(unw_addr_space_t space, unw_word_t address, unw_proc_info_t *info, int need_unwind_info, void *context) {
     struct wanted wanted = {.address = address};
     if (!dl_iterate_phdr(find_table, &wanted)) return -UNW_ENOINFO;
-    return dwarf_search_unwind_table(space, address, &wanted.table, info, need_unwind_info, context);
+    return search_table(space, address, &wanted.table, info, need_unwind_info, context);
 }
 
 static void *walk_often(void *space) {
@@ -351,6 +442,8 @@ static void threads_share_rows(void) {
 /* ---- the stack on which all is tried ---- */
 
 static void try_all(void) {
+    frames_are_those_of_libunwind(UNW_CACHE_NONE);
+    frames_are_those_of_libunwind(UNW_CACHE_GLOBAL);
     a_walk_has_the_frames(UNW_CACHE_NONE, frame_count);
     a_walk_has_the_frames(UNW_CACHE_GLOBAL, 0);
     a_walk_has_the_frames(UNW_CACHE_PER_THREAD, 0);
@@ -368,26 +461,40 @@ static void try_all(void) {
 static const int in_context[17] = {REG_RAX, REG_RDX, REG_RCX, REG_RBX, REG_RSI, REG_RDI, REG_RBP, REG_RSP, REG_R8,
                                    REG_R9,  REG_R10, REG_R11, REG_R12, REG_R13, REG_R14, REG_R15, REG_RIP};
 
-static __attribute__((noinline)) int at_stack(const void *one, const void *other) {
+/* Walks begin here: in the handler of a signal that has interrupted a callback of the C library. */
+static __attribute__((noinline)) void at_stack(int signal) {
     unw_context_t context;
-    (void)one, (void)other;
-    if (frame_count > 0) return 0;
+    (void)signal;
     frame_count = backtrace(frames, ROOM);
     unw_getcontext(&context);
     for (int i = 0; i < 17; i++) target.registers[i] = (uint64_t)context.uc_mcontext.gregs[in_context[i]];
     try_all();
-    return 0;
+}
+
+static int compare(const void *one, const void *other) {
+    if (frame_count == 0) raise(SIGUSR1);
+    return *(const int *)one - *(const int *)other;
 }
 
 static __attribute__((noinline)) int deeper(int depth) {
     int numbers[2] = {2, 1};
     if (depth > 0) return deeper(depth - 1) + 1;
-    qsort(numbers, 2, sizeof *numbers, at_stack);
+    qsort(numbers, 2, sizeof *numbers, compare);
     return numbers[0];
 }
 
-int main(void) {
-    deeper(20);
+/* A frame whose place depends on its own contents, so that rbp leads to it. */
+static __attribute__((noinline)) int with_room(int size) {
+    volatile char *room = __builtin_alloca((size_t)size);
+    room[0] = 1;
+    return deeper(20) + room[0];
+}
+
+int main(int argc, char **argv) {
+    if (argc < 2) return 2;
+    load(argv[1]);
+    signal(SIGUSR1, at_stack);
+    with_room(argc * 100);
     printf("%d checks: %d wrong\n", checks, wrong);
     return wrong != 0;
 }
