@@ -314,17 +314,19 @@ unwind_input() { # builds the tests of these calls with bad input, and runs them
         "$out/unwind_input"
 }
 
-build_unwind_remote() { # FLAG..: builds the tests of these calls for other processes
-    cc -std=gnu11 -D_GNU_SOURCE $strict -O2 -g "$@" "$top/c/tests/unwind_remote.c" "$unwind/libunwind-ptrace.so.0" \
-        "$unwind/libunwind.so.8" "-Wl,-rpath,$unwind" -o "$out/unwind_remote" -pthread -ldl
+build_unwind_remote() { # PROGRAM FLAG..: builds tests of these calls for other processes
+    local program=$1
+    shift
+    cc -std=gnu11 -D_GNU_SOURCE $strict -O2 -g "$@" "$top/c/tests/$program.c" "$unwind/libunwind-ptrace.so.0" \
+        "$unwind/libunwind.so.8" "-Wl,-rpath,$unwind" -o "$out/$program" -pthread -ldl
 }
 
 unwind_remote() {
-    build_unwind_remote "$@" && "$out/unwind_remote" "$(of_libunwind libunwind-x86_64.so.8)"
+    build_unwind_remote unwind_remote && "$out/unwind_remote" "$(of_libunwind libunwind-x86_64.so.8)"
 }
 
-unwind_remote_under_valgrind() {
-    build_unwind_remote && valgrind -q --error-exitcode=1 --leak-check=full "$out/unwind_remote" "$(of_libunwind libunwind-x86_64.so.8)"
+unwind_remote_input() {
+    build_unwind_remote unwind_remote_input && "$out/unwind_remote_input"
 }
 
 unwind() { # builds these tests and runs them beside libunwind
@@ -382,7 +384,8 @@ test_of "types of libunwind have the same layout" unwind_layouts
 test_of "the libraries with libunwind's names export all of them" unwind_names
 test_of "frames by libunwind's calls are those of libunwind" unwind
 test_of "libunwind's calls answer cursors and contexts of any bytes" unwind_input
-test_of "libunwind's calls for other processes bear accessors that fail, lie, step and leave" unwind_remote
+test_of "frames of other processes are those of libunwind" unwind_remote
+test_of "libunwind's calls bear accessors that fail, lie, step and leave" unwind_remote_input
 test_of "the header for C++ as C++17, beside that for C" wrapper c++17
 test_of "the header for C++ as C++20, whose frames are a range" wrapper c++20
 test_of "the header for C++ as a module of C++20" as_module

@@ -107,7 +107,7 @@ static const dwcheck_rule *rule_of(const struct step *step, uint32_t number) {
 static struct place place_by(const struct step *step, const dwcheck_rule *rule, const struct place before[REGISTERS]) {
     uint64_t address;
     switch (rule->kind) {
-    case DWCHECK_RULE_SAME_VALUE: return before[rule->reg];
+    case DWCHECK_RULE_SAME_VALUE: return rule->reg < REGISTERS ? before[rule->reg] : (struct place){0, PLACE_NONE};
     case DWCHECK_RULE_OFFSET: return (struct place){step->cfa + (uint64_t)rule->offset, PLACE_MEMORY};
     case DWCHECK_RULE_REGISTER: return rule->source < REGISTERS ? before[rule->source] : (struct place){0, PLACE_NONE};
     case DWCHECK_RULE_EXPRESSION:
@@ -129,7 +129,8 @@ static uint32_t move_places(const struct step *step) {
         places[rule->reg] = place_by(step, rule, before);
         if (rule->kind != DWCHECK_RULE_SAME_VALUE) changed |= 1u << rule->reg;
     }
-    if (step->row.return_reg < REGISTERS) places[RIP] = places[step->row.return_reg];
+    const dwcheck_rule *returns = rule_of(step, step->row.return_reg);
+    places[RIP] = returns ? place_by(step, returns, before) : (struct place){0, PLACE_NONE};
     return changed;
 }
 
@@ -190,11 +191,10 @@ static bool facts_of(const struct step *step, struct facts *facts) {
     return is_noted && (facts->has_return || facts->undefined >> RIP & 1);
 }
 
-static void keep(const struct step *step, uint64_t load_address, const struct record *record) {
+static void keep(const struct step *step) {
     struct facts facts;
     if (step->walk->space->policy == UNW_CACHE_NONE) return;
     if (facts_of(step, &facts)) dwcheck_remote_keep_row(step->walk->space, step->key, &facts, &step->module);
-    else dwcheck_remote_keep_record(step->walk->space, step->key, record, load_address);
 }
 
 int dwcheck_remote_step_by_record(struct remote_cursor *walk, struct words *words, uint64_t key, uint64_t load_address,
@@ -206,7 +206,7 @@ int dwcheck_remote_step_by_record(struct remote_cursor *walk, struct words *word
                                            &step.is_signal_frame, &fault);
     if (status == DWCHECK_NONE) return -UNW_ENOINFO;
     if (status != DWCHECK_DONE) return -UNW_EBADFRAME;
-    keep(&step, load_address, record);
+    keep(&step);
     const dwcheck_rule *returns = rule_of(&step, step.row.return_reg);
     words->error = 0;
     if (!find_cfa(&step) || (returns && !provide_for(&step, returns))) return dwcheck_remote_error(words);

@@ -71,15 +71,17 @@ struct facts {
     uint32_t undefined; /* a bit for each register that the caller's value of is lost */
     struct saved saved[8];
 };
-enum { MOST_KEPT_BYTES = 480 };
-/* Records that were copied before, for rows that can't be kept. */
-struct kept_record { uint64_t load_address; struct record record; uint8_t bytes[MOST_KEPT_BYTES]; };
+enum { MOST_KEPT_BYTES = 1024 };
+/* A function's records, copied before: for other addresses of it, and for rows that can't be kept. */
+struct kept_function { uint64_t start, end, load_address; struct record record; };
 
-enum kept { KEPT_NOTHING, KEPT_ROW, KEPT_RECORD };
-/* What is kept for an address that is looked up, `key` - 1. */
-HIDDEN enum kept dwcheck_remote_kept(unw_addr_space_t space, uint64_t key, struct facts *facts, struct kept_record *record);
+enum kept { KEPT_NOTHING, KEPT_ROW, KEPT_FUNCTION };
+/* What is kept for an address that is looked up, `key` - 1. The bytes are those of the function's records. */
+HIDDEN enum kept dwcheck_remote_kept(unw_addr_space_t space, uint64_t key, struct facts *facts, struct kept_function *function,
+                                     uint8_t bytes[MOST_KEPT_BYTES]);
 HIDDEN void dwcheck_remote_keep_row(unw_addr_space_t space, uint64_t key, const struct facts *facts, const dwcheck_module *module);
-HIDDEN void dwcheck_remote_keep_record(unw_addr_space_t space, uint64_t key, const struct record *record, uint64_t load_address);
+/* Keeps the function of an address, if its records aren't longer than MOST_KEPT_BYTES. */
+HIDDEN void dwcheck_remote_keep_function(unw_addr_space_t space, uint64_t key, const struct kept_function *function);
 /* Walks over one frame by a kept row. Returns how that ends; MISSING if the row isn't there any more. */
 HIDDEN uint32_t dwcheck_remote_walk(unw_addr_space_t space, dwcheck_place *place, const dwcheck_block *block);
 /* What an address space begins with; NULL without memory. */

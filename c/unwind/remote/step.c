@@ -26,7 +26,10 @@ static int step_by_copy(void *data, const struct record *record) {
     const struct by_record *step = data;
     dwcheck_record fde;
     if (!dwcheck_remote_fde(record, &fde)) return -UNW_EBADFRAME;
-    return dwcheck_remote_step_by_record(step->walk, step->words, step->key, step->info->start_ip - fde.start, record);
+    const uint64_t load_address = step->info->start_ip - fde.start;
+    const struct kept_function function = {step->info->start_ip, fde.end + load_address, load_address, *record};
+    dwcheck_remote_keep_function(step->walk->space, step->key, &function);
+    return dwcheck_remote_step_by_record(step->walk, step->words, step->key, load_address, record);
 }
 
 /* Takes a step by the FDE of the address `key` - 1. */
@@ -78,12 +81,13 @@ static int step_by_kept_row(struct remote_cursor *walk, struct words *words, con
 /* Takes a step by what is kept for the address, or by a search. */
 static int step(struct remote_cursor *walk, struct words *words) {
     struct facts facts;
-    struct kept_record kept;
+    struct kept_function function;
+    uint8_t bytes[MOST_KEPT_BYTES];
     int result = BY_SEARCH;
-    switch (dwcheck_remote_kept(walk->space, walk->frame.key, &facts, &kept)) {
+    switch (dwcheck_remote_kept(walk->space, walk->frame.key, &facts, &function, bytes)) {
     case KEPT_ROW: result = step_by_kept_row(walk, words, &facts); break;
-    case KEPT_RECORD:
-        return dwcheck_remote_step_by_record(walk, words, walk->frame.key, kept.load_address, &kept.record);
+    case KEPT_FUNCTION:
+        return dwcheck_remote_step_by_record(walk, words, walk->frame.key, function.load_address, &function.record);
     case KEPT_NOTHING: break;
     }
     return result == BY_SEARCH ? dwcheck_remote_step_by_search(walk, words, walk->frame.key) : result;
