@@ -47,12 +47,20 @@ static struct {
     bool is_silent; /* words may be asked for twice */
 } target;
 
+/* The step within a step asks for the same words. */
+static void step_within(void) {
+    target.is_silent = true;
+    unw_step(target.cursor);
+    target.is_silent = false;
+    target.count = 0;
+}
+
 static int make_trouble(unw_word_t *value) {
     const enum trouble trouble = target.trouble;
     target.trouble = trouble == LIES ? LIES : NO_TROUBLE;
     if (trouble == FAILS) return FAILURE;
     if (trouble == LIES) *value = any() % 2 ? any() : *value + any() % 64;
-    if (trouble == STEPS) unw_step(target.cursor), target.count = 0;
+    if (trouble == STEPS) step_within();
     if (trouble == LEAVES) longjmp(target.out, 1);
     return 0;
 }
@@ -141,17 +149,6 @@ static int step(unw_cursor_t *cursor) {
 static void begin(unw_cursor_t *cursor, unw_addr_space_t space, enum trouble trouble, long at) {
     target.cursor = cursor, target.trouble = trouble, target.trouble_at = at, target.asked = 0;
     IS(unw_init_remote(cursor, space, NULL), 0);
-}
-
-/* Walks to the end, and compares each frame with the C library's. */
-static void frames_are_right(unw_cursor_t *cursor, int from) {
-    int number = from, result;
-    while ((result = step(cursor)) > 0) {
-        number++;
-        IS(address_of(cursor), number < frame_count ? (uint64_t)frames[number] : 0);
-    }
-    IS(result, 0);
-    IS(number, frame_count - 1);
 }
 
 /* ---- the stack ---- */

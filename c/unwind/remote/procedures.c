@@ -70,7 +70,7 @@ int dwcheck_remote_rows(unw_cursor_t *cursor, unw_reg_states_callback callback, 
     if (result < 0) return result;
     dwcheck_remote_begin(&words, walk.space, walk.context);
     struct iteration iteration = {&info, callback, token};
-    return dwcheck_remote_with_record(&words, (uint64_t)info.unwind_info, go_through, &iteration);
+    return dwcheck_remote_with_found_record(&words, (uint64_t)info.unwind_info, go_through, &iteration);
 }
 
 int dwcheck_remote_apply_row(unw_cursor_t *cursor, uint64_t address) {

@@ -26,6 +26,7 @@ void dwcheck_remote_remember(const struct words *words, const struct record *rec
     memcpy(found.bytes, record->bytes, length);
 }
 
+/* Whether the search of this step has copied an FDE. */
 static bool is_remembered(const struct words *words, uint64_t fde) {
     return found.found_in == found.step && found.space == words->space && found.context == words->context && found.record.fde == fde;
 }
@@ -59,14 +60,20 @@ static bool copy_both(struct words *words, const struct record *record, uint8_t 
 
 /* The copies are on the stack, so an accessor that leaves the call by longjmp leaves no memory behind. */
 int dwcheck_remote_with_record(struct words *words, uint64_t fde, use_record *use, void *data) {
-    struct record record = found.record;
-    const bool was_found = is_remembered(words, fde);
+    struct record record;
     words->error = 0;
-    if (!was_found && !measure(words, fde, &record)) return words->error < 0 ? words->error : -UNW_EBADFRAME;
+    if (!measure(words, fde, &record)) return words->error < 0 ? words->error : -UNW_EBADFRAME;
     uint8_t bytes[record.cie_length + record.fde_length];
-    if (was_found) memcpy(bytes, found.bytes, sizeof bytes);
-    else if (!copy_both(words, &record, bytes)) return dwcheck_remote_error(words);
+    if (!copy_both(words, &record, bytes)) return dwcheck_remote_error(words);
     record.bytes = bytes;
+    return use(data, &record);
+}
+
+int dwcheck_remote_with_found_record(struct words *words, uint64_t fde, use_record *use, void *data) {
+    if (!is_remembered(words, fde)) return dwcheck_remote_with_record(words, fde, use, data);
+    struct record record = found.record;
+    uint8_t bytes[MOST_REMEMBERED];
+    record.bytes = memcpy(bytes, found.bytes, record.cie_length + record.fde_length);
     return use(data, &record);
 }
 

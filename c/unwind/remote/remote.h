@@ -19,8 +19,9 @@ _Static_assert(sizeof(struct remote_cursor) <= sizeof(unw_cursor_t), "a cursor f
 
 /* ---- words.c: what is asked for ---- */
 
-enum { MOST_WORDS = 64 };
-/* The words that a call has asked for, so that it asks for none twice; past MOST_WORDS they aren't noted. */
+enum { MOST_WORDS = 64, MOST_COPIED = MOST_WORDS / 2 };
+/* The words that a call has asked for, so that it asks for none twice. Of those that are copied, it notes the first ones: a
+   record may have thousands, and room is left for those of the stack. */
 struct words {
     unw_addr_space_t space;
     void *context;
@@ -49,9 +50,11 @@ struct record { uint64_t fde, cie; uint32_t cie_length, fde_length; const uint8_
 typedef int use_record(void *data, const struct record *record);
 /* Copies the FDE at an address and its CIE, and returns what `use` returns for them; or an error. */
 HIDDEN int dwcheck_remote_with_record(struct words *words, uint64_t fde, use_record *use, void *data);
+/* The same, but with the copies that a search has made in this step. */
+HIDDEN int dwcheck_remote_with_found_record(struct words *words, uint64_t fde, use_record *use, void *data);
 /* The records as a section. */
 HIDDEN dwcheck_module dwcheck_remote_section(const struct record *record, uint64_t load_address);
-/* Begins a step: what a search finds in it is remembered for it, in this thread. */
+/* Begins a step: what a search copies in it is remembered for it, in this thread. */
 HIDDEN void dwcheck_remote_begin_step(void);
 HIDDEN void dwcheck_remote_remember(const struct words *words, const struct record *record);
 /* Reads the FDE of the two. Returns false if it isn't one. */

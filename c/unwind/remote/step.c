@@ -39,7 +39,7 @@ int dwcheck_remote_step_by_search(struct remote_cursor *walk, struct words *word
     const int result = dwcheck_remote_find_fde(walk->space, key - 1, &info, walk->context);
     if (result < 0) return result;
     struct by_record step = {walk, words, key, &info};
-    return dwcheck_remote_with_record(words, (uint64_t)info.unwind_info, step_by_copy, &step);
+    return dwcheck_remote_with_found_record(words, (uint64_t)info.unwind_info, step_by_copy, &step);
 }
 
 /* The caller's registers are where the row says that they are saved. */
@@ -93,9 +93,10 @@ static int step(struct remote_cursor *walk, struct words *words) {
     return result == BY_SEARCH ? dwcheck_remote_step_by_search(walk, words, walk->frame.key) : result;
 }
 
+/* If rbp can't be read, it isn't known whether it leads to a frame. */
 static int guess(struct remote_cursor *walk, struct words *words) {
     const struct word_reader memory = {dwcheck_remote_read, words};
-    dwcheck_remote_fetch(walk, words, RBP);
+    if (!dwcheck_remote_fetch(walk, words, RBP) && walk->places[RBP].kind != PLACE_NONE) return dwcheck_remote_error(words);
     return dwcheck_unwind_guess(&walk->frame, walk->places, &memory);
 }
 
@@ -105,12 +106,12 @@ int dwcheck_remote_step(unw_cursor_t *cursor) {
     if (own->frame.is_last) return 0;
     struct remote_cursor walk = *own;
     struct words words;
+    const uint64_t address = walk.frame.values[RIP], stack_pointer = walk.frame.values[RSP];
     dwcheck_remote_begin(&words, walk.space, walk.context);
     int result = walk.frame.key == 0 ? -UNW_ENOINFO : step(&walk, &words);
     if (result == -UNW_ENOINFO) result = guess(&walk, &words);
     if (result > 0 && walk.frame.key == 0) result = dwcheck_unwind_end(&walk.frame); /* where some threads begin */
-    if (result > 0 && walk.frame.values[RIP] == own->frame.values[RIP] && walk.frame.values[RSP] == own->frame.values[RSP])
-        return -UNW_EBADFRAME;
+    if (result > 0 && walk.frame.values[RIP] == address && walk.frame.values[RSP] == stack_pointer) return -UNW_EBADFRAME;
     if (result < 0) return result;
     walk.changes++;
     *own = walk;

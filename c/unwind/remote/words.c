@@ -13,7 +13,8 @@ void dwcheck_remote_begin(struct words *words, unw_addr_space_t space, void *con
 
 int dwcheck_remote_error(const struct words *words) { return words->error < 0 ? words->error : -UNW_EUNSPEC; }
 
-bool dwcheck_remote_ask(struct words *words, uint64_t address, uint64_t *value) {
+/* Asks for a word, and notes it, if fewer than `most` are noted. */
+static bool ask(struct words *words, uint64_t address, uint64_t *value, unsigned most) {
     for (unsigned i = 0; i < words->count; i++)
         if (words->addresses[i] == address) {
             *value = words->values[i];
@@ -23,13 +24,15 @@ bool dwcheck_remote_ask(struct words *words, uint64_t address, uint64_t *value) 
     unw_word_t word = 0;
     const int result = accessors->access_mem ? accessors->access_mem(words->space, address, &word, 0, words->context) : -UNW_EINVAL;
     if (result < 0) words->error = result, word = 0;
-    if (words->count < MOST_WORDS) {
+    if (words->count < most) {
         words->missing |= (uint64_t)(result < 0) << words->count;
         words->addresses[words->count] = address, words->values[words->count++] = word;
     }
     *value = word;
     return result >= 0;
 }
+
+bool dwcheck_remote_ask(struct words *words, uint64_t address, uint64_t *value) { return ask(words, address, value, MOST_WORDS); }
 
 bool dwcheck_remote_read(void *words, uint64_t address, uint64_t *word) { return dwcheck_remote_ask(words, address, word); }
 
@@ -39,7 +42,7 @@ bool dwcheck_remote_copy(struct words *words, uint64_t address, uint8_t *bytes, 
         const uint64_t within = (address + done) % WORD;
         uint64_t word;
         part = length - done < WORD - within ? length - done : (uint32_t)(WORD - within);
-        if (!dwcheck_remote_ask(words, address + done - within, &word)) return false;
+        if (!ask(words, address + done - within, &word, MOST_COPIED)) return false;
         memcpy(bytes + done, (const uint8_t *)&word + within, part);
     }
     return true;
