@@ -147,6 +147,7 @@ static int step(unw_cursor_t *cursor) {
 }
 
 static void begin(unw_cursor_t *cursor, unw_addr_space_t space, enum trouble trouble, long at) {
+    memset(cursor, 0, sizeof *cursor); /* also what a walk leaves as it is */
     target.cursor = cursor, target.trouble = trouble, target.trouble_at = at, target.asked = 0;
     IS(unw_init_remote(cursor, space, NULL), 0);
 }
