@@ -161,14 +161,22 @@ def gstreamer(folder, work):
     return [re.sub(r":0x[0-9a-f]+", "", line) for line in frames]
 
 
+def calls_of(text):
+    """The system calls that strace shows, each by its name and its frames."""
+    calls = re.findall(r"^(\w+)\(.*\n((?: > .*\n)*)", text, re.MULTILINE)
+    return {name + ":" + frames.replace("\n", "") for name, frames in calls if frames}
+
+
 def strace(folder, work):
-    """The system calls of two programs by name, and the frames of each."""
-    lines = []
-    for command in [build(work), "allocate"], ["ls", "-l", "/"]:
-        file = pathlib.Path(work) / "strace"
-        run(["strace", "-E", "LD_LIBRARY_PATH", "-k", "-o", str(file), *command], folder)
-        lines += [line if line.startswith(" > ") else line.split("(")[0] for line in file.read_text(encoding="utf-8").splitlines()]
-    return lines if any(line.startswith(" > ") for line in lines) else []
+    """The stacks of two programs; and of a shell and its children, which have other programs at the same addresses."""
+    found, follow = set(), "cd / && find usr/share/doc -maxdepth 1 | wc -l && ls | sort"
+    for flags, command in ([], [build(work), "allocate"]), ([], ["ls", "-l", "/"]), (["-ff"], ["sh", "-c", follow]):
+        for file in pathlib.Path(work).glob("strace*"):
+            file.unlink()
+        run(["strace", "-E", "LD_LIBRARY_PATH", "-k", *flags, "-o", f"{work}/strace", *command], folder)
+        for file in pathlib.Path(work).glob("strace*"):
+            found |= calls_of(file.read_text(encoding="utf-8"))
+    return sorted(found)
 
 
 def perf_lines(file, folder, *flags):

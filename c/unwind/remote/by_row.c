@@ -194,7 +194,7 @@ static bool facts_of(const struct step *step, struct facts *facts) {
 static void keep(const struct step *step) {
     struct facts facts;
     if (step->walk->space->policy == UNW_CACHE_NONE) return;
-    if (facts_of(step, &facts)) dwcheck_remote_keep_row(step->walk->space, step->key, &facts, &step->module);
+    if (facts_of(step, &facts)) dwcheck_remote_keep_row(step->walk, step->key, &facts, &step->module);
 }
 
 int dwcheck_remote_step_by_record(struct remote_cursor *walk, struct words *words, uint64_t key, uint64_t load_address,

@@ -79,14 +79,15 @@ enum { MOST_KEPT_BYTES = 1024 };
 struct kept_function { uint64_t start, end, load_address; struct record record; };
 
 enum kept { KEPT_NOTHING, KEPT_ROW, KEPT_FUNCTION };
-/* What is kept for an address that is looked up, `key` - 1. The bytes are those of the function's records. */
-HIDDEN enum kept dwcheck_remote_kept(unw_addr_space_t space, uint64_t key, struct facts *facts, struct kept_function *function,
+/* What is kept for the address at which a walk is. The bytes are those of the function's records. */
+HIDDEN enum kept dwcheck_remote_kept(const struct remote_cursor *walk, struct facts *facts, struct kept_function *function,
                                      uint8_t bytes[MOST_KEPT_BYTES]);
-HIDDEN void dwcheck_remote_keep_row(unw_addr_space_t space, uint64_t key, const struct facts *facts, const dwcheck_module *module);
-/* Keeps the function of an address, if its records aren't longer than MOST_KEPT_BYTES. */
-HIDDEN void dwcheck_remote_keep_function(unw_addr_space_t space, uint64_t key, const struct kept_function *function);
+HIDDEN void dwcheck_remote_keep_row(const struct remote_cursor *walk, uint64_t key, const struct facts *facts,
+                                    const dwcheck_module *module);
+/* Keeps the function of the address `key` - 1, if its records aren't longer than MOST_KEPT_BYTES. */
+HIDDEN void dwcheck_remote_keep_function(const struct remote_cursor *walk, uint64_t key, const struct kept_function *function);
 /* Walks over one frame by a kept row. Returns how that ends; MISSING if the row isn't there any more. */
-HIDDEN uint32_t dwcheck_remote_walk(unw_addr_space_t space, dwcheck_place *place, const dwcheck_block *block);
+HIDDEN uint32_t dwcheck_remote_walk(const struct remote_cursor *walk, dwcheck_place *place, const dwcheck_block *block);
 /* What an address space begins with; NULL without memory. */
 HIDDEN struct kept_rows *dwcheck_remote_new(void);
 HIDDEN void dwcheck_remote_free(struct kept_rows *kept);

@@ -28,7 +28,7 @@ static int step_by_copy(void *data, const struct record *record) {
     if (!dwcheck_remote_fde(record, &fde)) return -UNW_EBADFRAME;
     const uint64_t load_address = step->info->start_ip - fde.start;
     const struct kept_function function = {step->info->start_ip, fde.end + load_address, load_address, *record};
-    dwcheck_remote_keep_function(step->walk->space, step->key, &function);
+    dwcheck_remote_keep_function(step->walk, step->key, &function);
     return dwcheck_remote_step_by_record(step->walk, step->words, step->key, load_address, record);
 }
 
@@ -67,7 +67,7 @@ static int step_by_kept_row(struct remote_cursor *walk, struct words *words, con
     const bool is_needed = facts->cfa_register == RBP;
     dwcheck_place place = {.address = frame->values[RIP], .key = frame->key, .stack_pointer = frame->values[RSP],
                            .frame_pointer = is_needed ? frame->values[RBP] : UINT64_MAX, .is_saved = !is_needed};
-    const uint32_t stop = dwcheck_remote_walk(walk->space, &place, &block);
+    const uint32_t stop = dwcheck_remote_walk(walk, &place, &block);
     if (stop == DWCHECK_STOP_RETURN_UNDEFINED) return dwcheck_unwind_end(frame);
     if (stop != DWCHECK_STOP_LIMIT) return BY_SEARCH;
     move_places(walk, facts, cfa);
@@ -84,7 +84,7 @@ static int step(struct remote_cursor *walk, struct words *words) {
     struct kept_function function;
     uint8_t bytes[MOST_KEPT_BYTES];
     int result = BY_SEARCH;
-    switch (dwcheck_remote_kept(walk->space, walk->frame.key, &facts, &function, bytes)) {
+    switch (dwcheck_remote_kept(walk, &facts, &function, bytes)) {
     case KEPT_ROW: result = step_by_kept_row(walk, words, &facts); break;
     case KEPT_FUNCTION:
         return dwcheck_remote_step_by_record(walk, words, walk->frame.key, function.load_address, &function.record);
