@@ -1,5 +1,6 @@
-/* Steps by an FDE and its CIE: rows of every kind. The row says what has to be asked for, and the proved step is taken with
-   that. Where other registers are saved is noted, and asked for when somebody wants to know. */
+/* Steps by an FDE and its CIE. A row that can be kept is kept, and the step is taken by it. Of any other row, the step asks for
+   what the row says, and the proved step is taken with that. Where other registers are saved is noted, and asked for when
+   somebody wants to know. */
 #include "remote.h"
 
 #include <string.h>
@@ -191,10 +192,13 @@ static bool facts_of(const struct step *step, struct facts *facts) {
     return is_noted && (facts->has_return || facts->undefined >> RIP & 1);
 }
 
-static void keep(const struct step *step) {
+/* Keeps the row, and takes the step by it, if such a step can follow it. */
+static int step_by_keeping(const struct step *step) {
     struct facts facts;
-    if (step->walk->space->policy == UNW_CACHE_NONE) return;
-    if (facts_of(step, &facts)) dwcheck_remote_keep_row(step->walk, step->key, &facts, &step->module);
+    if (step->walk->space->policy == UNW_CACHE_NONE || !facts_of(step, &facts)) return NO_KEPT_ROW;
+    dwcheck_remote_keep_row(step->walk, step->key, &facts, &step->module);
+    if (step->key != step->walk->frame.key) return NO_KEPT_ROW;
+    return dwcheck_remote_step_by_kept_row(step->walk, step->words, &facts);
 }
 
 int dwcheck_remote_step_by_record(struct remote_cursor *walk, struct words *words, uint64_t key, uint64_t load_address,
@@ -206,7 +210,8 @@ int dwcheck_remote_step_by_record(struct remote_cursor *walk, struct words *word
                                            &step.is_signal_frame, &fault);
     if (status == DWCHECK_NONE) return -UNW_ENOINFO;
     if (status != DWCHECK_DONE) return -UNW_EBADFRAME;
-    keep(&step);
+    const int result = step_by_keeping(&step);
+    if (result != NO_KEPT_ROW) return result;
     const dwcheck_rule *returns = rule_of(&step, step.row.return_reg);
     words->error = 0;
     if (!find_cfa(&step) || (returns && !provide_for(&step, returns))) return dwcheck_remote_error(words);

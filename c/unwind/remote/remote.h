@@ -92,7 +92,13 @@ HIDDEN uint32_t dwcheck_remote_walk(const struct remote_cursor *walk, dwcheck_pl
 HIDDEN struct kept_rows *dwcheck_remote_new(void);
 HIDDEN void dwcheck_remote_free(struct kept_rows *kept);
 
-/* ---- by_row.c: steps by rows that aren't kept ---- */
+/* ---- by_kept_row.c ---- */
+
+enum { NO_KEPT_ROW = 2 }; /* besides what unw_step returns: the row isn't kept any more */
+/* Moves to the caller by the kept row of the address at which the walk is. */
+HIDDEN int dwcheck_remote_step_by_kept_row(struct remote_cursor *walk, struct words *words, const struct facts *facts);
+
+/* ---- by_row.c: steps by any row ---- */
 
 /* Moves to the caller, by the FDE of which `key` - 1 is an address. */
 HIDDEN int dwcheck_remote_step_by_record(struct remote_cursor *walk, struct words *words, uint64_t key, uint64_t load_address,

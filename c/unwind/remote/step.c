@@ -42,55 +42,19 @@ int dwcheck_remote_step_by_search(struct remote_cursor *walk, struct words *word
     return dwcheck_remote_with_found_record(words, (uint64_t)info.unwind_info, step_by_copy, &step);
 }
 
-/* The caller's registers are where the row says that they are saved. */
-static void move_places(struct remote_cursor *walk, const struct facts *facts, uint64_t cfa) {
-    for (int i = 0; i < facts->count; i++) {
-        walk->places[facts->saved[i].number] = (struct place){cfa + (uint64_t)(int64_t)facts->saved[i].offset, PLACE_MEMORY};
-        walk->frame.known &= ~(1u << facts->saved[i].number);
-    }
-    for (uint32_t left = facts->undefined; left; left &= left - 1) walk->places[__builtin_ctz(left)] = (struct place){0, PLACE_NONE};
-    walk->frame.known &= ~facts->undefined;
-}
-
-enum { BY_SEARCH = 2 }; /* besides what unw_step returns: there is no kept row any more */
-
-/* What a step by a kept row reads is the return address, below the CFA, and rbp, if the CFA is counted from it. So only these
-   are asked for. rbp is passed as a register that is saved where nothing can be read, unless the row needs it. */
-static int step_by_kept_row(struct remote_cursor *walk, struct words *words, const struct facts *facts) {
-    struct frame *frame = &walk->frame;
-    if (!dwcheck_remote_fetch(walk, words, facts->cfa_register)) return dwcheck_remote_error(words);
-    const uint64_t cfa = frame->values[facts->cfa_register] + (uint64_t)(int64_t)facts->cfa_offset;
-    const uint64_t returns_at = cfa + (uint64_t)(int64_t)facts->return_offset;
-    uint64_t word = 0;
-    if (facts->has_return && !dwcheck_remote_ask(words, returns_at, &word)) return dwcheck_remote_error(words);
-    const dwcheck_block block = {returns_at, (const uint8_t *)&word, facts->has_return ? sizeof word : 0};
-    const bool is_needed = facts->cfa_register == RBP;
-    dwcheck_place place = {.address = frame->values[RIP], .key = frame->key, .stack_pointer = frame->values[RSP],
-                           .frame_pointer = is_needed ? frame->values[RBP] : UINT64_MAX, .is_saved = !is_needed};
-    const uint32_t stop = dwcheck_remote_walk(walk, &place, &block);
-    if (stop == DWCHECK_STOP_RETURN_UNDEFINED) return dwcheck_unwind_end(frame);
-    if (stop != DWCHECK_STOP_LIMIT) return BY_SEARCH;
-    move_places(walk, facts, cfa);
-    walk->places[RIP] = (struct place){returns_at, PLACE_MEMORY};
-    frame->values[RIP] = place.address, frame->key = place.key, frame->values[RSP] = place.stack_pointer;
-    frame->known |= 1u << RIP | 1u << RSP;
-    frame->guess = UNW_GUESS_NONE, frame->is_interrupted = 0;
-    return 1;
-}
-
 /* Takes a step by what is kept for the address, or by a search. */
 static int step(struct remote_cursor *walk, struct words *words) {
     struct facts facts;
     struct kept_function function;
     uint8_t bytes[MOST_KEPT_BYTES];
-    int result = BY_SEARCH;
+    int result = NO_KEPT_ROW;
     switch (dwcheck_remote_kept(walk, &facts, &function, bytes)) {
-    case KEPT_ROW: result = step_by_kept_row(walk, words, &facts); break;
+    case KEPT_ROW: result = dwcheck_remote_step_by_kept_row(walk, words, &facts); break;
     case KEPT_FUNCTION:
         return dwcheck_remote_step_by_record(walk, words, walk->frame.key, function.load_address, &function.record);
     case KEPT_NOTHING: break;
     }
-    return result == BY_SEARCH ? dwcheck_remote_step_by_search(walk, words, walk->frame.key) : result;
+    return result == NO_KEPT_ROW ? dwcheck_remote_step_by_search(walk, words, walk->frame.key) : result;
 }
 
 /* If rbp can't be read, it isn't known whether it leads to a frame. */
