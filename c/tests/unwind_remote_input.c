@@ -115,6 +115,63 @@ static void lengths_are_bounded(void) {
     munmap(memory, 2 * PAGE);
 }
 
+/* ---- what find_proc_info and records may be ---- */
+
+static struct { unw_proc_info_t info; int result; } said; /* by find_proc_info */
+
+static int say(unw_addr_space_t space, unw_word_t address, unw_proc_info_t *info, int need_unwind_info, void *context) {
+    (void)space, (void)address, (void)need_unwind_info, (void)context;
+    *info = said.info;
+    return said.result;
+}
+
+static unw_addr_space_t space_that_says(void) {
+    unw_accessors_t saying = accessors;
+    saying.find_proc_info = say;
+    return unw_create_addr_space(&saying, 0);
+}
+
+/* Of two records of 64 KB each word is asked for once; if they overlap, some twice. */
+static void step_once(unw_addr_space_t space) {
+    unw_cursor_t cursor;
+    begin(&cursor, space, NO_TROUBLE, -1);
+    target.is_silent = true;
+    step(&cursor);
+    target.is_silent = false;
+    IS(target.asked <= 2 * (65536 / 8 + 2) + 100, 1);
+}
+
+static void any_description_gets_an_answer(void) {
+    unw_addr_space_t space = space_that_says();
+    for (int i = 0; i < 2000; i++) {
+        const uint64_t any_address = any() % 2 ? any() : (uint64_t)&said + any() % 4096;
+        said.result = any() % 8 ? 0 : -(int)(any() % 30);
+        said.info = (unw_proc_info_t){.start_ip = any(), .end_ip = any(), .format = (int)(any() % 6) - 1,
+                                      .unwind_info_size = (int)any(), .unwind_info = (void *)(any() % 4 ? any_address : 0)};
+        step_once(space);
+    }
+    unw_destroy_addr_space(space);
+}
+
+/* An FDE for the address at which walks begin, and its CIE, with up to four other bytes. */
+static void any_bytes_of_a_record_get_an_answer(unw_caching_policy_t policy) {
+    static struct { uint8_t cie[20]; int32_t fde[4]; uint8_t program[48]; } records;
+    unw_addr_space_t space = space_that_says();
+    unw_set_caching_policy(space, policy);
+    said.result = 0;
+    said.info = (unw_proc_info_t){.format = UNW_INFO_FORMAT_TABLE, .unwind_info = records.fde};
+    for (int i = 0; i < 8000; i++) {
+        const int32_t head[4] = {sizeof head - 4 + sizeof records.program, sizeof records.cie + 4, 0, 256};
+        memcpy(records.cie, cie, sizeof cie), memcpy(records.fde, head, sizeof head);
+        for (size_t j = 0; j < sizeof records.program; j++) records.program[j] = j > 0 ? (uint8_t)any() : 0;
+        for (unsigned long j = any() % 5; j > 0; j--) ((uint8_t *)&records)[any() % sizeof records] = (uint8_t)any();
+        said.info.start_ip = target.registers[UNW_REG_IP] - any() % 128, said.info.end_ip = said.info.start_ip + 256;
+        step_once(space);
+        if (i % 16 == 0) unw_flush_cache(space, 0, 0);
+    }
+    unw_destroy_addr_space(space);
+}
+
 /* ---- a process that dies ---- */
 
 static void wait_for_it(void) {
@@ -155,6 +212,9 @@ static void try_all(void) {
     words_that_lie_get_an_answer(UNW_CACHE_GLOBAL);
     accessors_that_are_missing_get_an_answer();
     lengths_are_bounded();
+    any_description_gets_an_answer();
+    any_bytes_of_a_record_get_an_answer(UNW_CACHE_NONE);
+    any_bytes_of_a_record_get_an_answer(UNW_CACHE_GLOBAL);
     a_process_may_die();
 }
 
