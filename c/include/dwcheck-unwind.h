@@ -10,11 +10,12 @@
    signal handler, but for _U_dyn_register and _U_dyn_cancel. They neither allocate nor lock, and take up to 4 KB of stack. A
    handler that leaves a call by siglongjmp takes one of 64 caches away; without a free one a call returns -UNW_ENOMEM.
 
-   Another process is read by the caller's accessors alone, which return what a call then returns where they fail. An accessor
-   may give wrong values, make any call, also with the cursor of the call that asks, or leave that by longjmp, and then the
-   cursor is as it was. A step asks for each word once. It copies an FDE and its CIE, of at most 64 KB each, and keeps the rows
-   that it finds in memory of the heap, in up to 1 MB for an address space, unless the policy is UNW_CACHE_NONE. A step takes up
-   to 60 KB of stack, and with such records 200 KB. Threads may use one address space at once.
+   Another process is read by the caller's accessors alone. What an accessor returns where it fails, the call returns. An
+   accessor may give wrong values, make any call, also with the cursor of the call that asks, or leave that by longjmp, and
+   then the cursor is as it was. A step asks for each word of the stack once, and for each of an FDE and its CIE, which it
+   copies; these have at most 64 KB each. Unless the policy is UNW_CACHE_NONE, rows that were found are kept on the heap until
+   they are flushed, for each context: in some 1.3 MB where there are thousands of functions, and in 3.2 MB at most. A step
+   takes up to 60 KB of stack, and 200 KB with the longest records. Threads may use one address space at once.
 
    How the calls differ from libunwind's:
    - Of another process: unw_proc_info_t's unwind_info is the address of the FDE there, and nothing to be freed. Functions that
