@@ -126,6 +126,46 @@ static void frames_are_those_of_libunwind(unw_caching_policy_t policy) {
     unw_destroy_addr_space(space);
 }
 
+/* ---- functions that the process has registered ---- */
+
+static int own_list(unw_addr_space_t space, unw_word_t *address, void *context) {
+    (void)space, (void)context;
+    *address = _U_dyn_info_list_addr();
+    return 0;
+}
+
+/* A function of the stack is registered, by the table of its module; another one, below it, with a name alone. */
+static void registered_functions_are_found(void) {
+    struct wanted wanted = {.address = (unw_word_t)frames[frame_count - 4]};
+    static char name[] = "named by the process", found[sizeof name];
+    unw_accessors_t listing = accessors;
+    unw_dyn_info_t named = {.start_ip = 4096, .end_ip = 8192, .u.pi.name_ptr = (unw_word_t)name};
+    unw_cursor_t cursor;
+    unw_proc_info_t info;
+    unw_word_t offset;
+    listing.get_dyn_info_list_addr = own_list;
+    unw_addr_space_t space = unw_create_addr_space(&listing, 0);
+    IS(dl_iterate_phdr(find_table, &wanted), 1);
+    _U_dyn_register(&wanted.table), _U_dyn_register(&named);
+    target.searches = 0;
+    begin(&cursor, space, NO_TROUBLE, -1);
+    frames_are_right(&cursor, 0);
+    IS(target.searches > 0 && target.searches < 10, 1); /* those in the C library */
+    target.is_silent = true;
+    IS(unw_get_proc_name_by_ip(space, 5000, found, sizeof found, &offset, NULL), 0);
+    IS(strcmp(found, name), 0);
+    IS(offset, 5000 - 4096);
+    IS(unw_get_proc_name_by_ip(space, 5000, found, 6, &offset, NULL), -UNW_ENOMEM);
+    IS(unw_get_proc_info_by_ip(space, 5000, &info, NULL), 0);
+    IS(info.end_ip, 8192);
+    named.next = &named; /* a list without an end */
+    IS(unw_get_proc_info_by_ip(space, 1, &info, NULL), -UNW_ENOINFO);
+    named.next = &wanted.table;
+    target.is_silent = false;
+    _U_dyn_cancel(&named), _U_dyn_cancel(&wanted.table);
+    unw_destroy_addr_space(space);
+}
+
 /* ---- threads with one address space; they have accessors that note nothing ---- */
 
 static int read_only(unw_addr_space_t space, unw_word_t address, unw_word_t *value, int is_write, void *context) {
@@ -174,6 +214,7 @@ static void try_all(void) {
     a_walk_has_the_frames(UNW_CACHE_NONE);
     a_walk_has_the_frames(UNW_CACHE_GLOBAL);
     a_walk_has_the_frames(UNW_CACHE_PER_THREAD);
+    registered_functions_are_found();
     threads_share_rows();
 }
 

@@ -19,6 +19,8 @@ int dwcheck_remote_name_of(unw_addr_space_t space, uint64_t address, char *name,
     const unw_accessors_t *accessors = &space->accessors;
     unw_word_t unused = 0;
     name[0] = '\0';
+    const int result = dwcheck_remote_registered_name(space, address, name, size, offset, context);
+    if (result != -UNW_ENOINFO) return result;
     if (!accessors->get_proc_name) return -UNW_ENOINFO;
     return accessors->get_proc_name(space, address, name, size, offset ? offset : &unused, context);
 }

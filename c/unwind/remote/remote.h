@@ -104,9 +104,16 @@ HIDDEN int dwcheck_remote_step_by_kept_row(struct remote_cursor *walk, struct wo
 HIDDEN int dwcheck_remote_step_by_record(struct remote_cursor *walk, struct words *words, uint64_t key, uint64_t load_address,
                                          const struct record *record);
 
+/* ---- registered.c: what the process has registered; -UNW_ENOINFO for any other address ---- */
+
+HIDDEN int dwcheck_remote_find_registered(unw_addr_space_t space, uint64_t address, unw_proc_info_t *info, int need_unwind_info,
+                                          void *context);
+HIDDEN int dwcheck_remote_registered_name(unw_addr_space_t space, uint64_t address, char *name, size_t size, unw_word_t *offset,
+                                          void *context);
+
 /* ---- step.c ---- */
 
-/* What the caller's accessor knows of the function that has an address; returns what it returns. */
+/* What is registered, or what the caller's accessor knows, of the function that has an address; returns what it returns. */
 HIDDEN int dwcheck_remote_find(unw_addr_space_t space, uint64_t address, unw_proc_info_t *info, int need_unwind_info,
                                void *context);
 /* The same, for a step: the FDE has to be known. */

@@ -7,6 +7,8 @@
 int dwcheck_remote_find(unw_addr_space_t space, uint64_t address, unw_proc_info_t *info, int need_unwind_info, void *context) {
     const unw_accessors_t *accessors = &space->accessors;
     memset(info, 0, sizeof *info);
+    const int result = dwcheck_remote_find_registered(space, address, info, need_unwind_info, context);
+    if (result != -UNW_ENOINFO) return result;
     return accessors->find_proc_info ? accessors->find_proc_info(space, address, info, need_unwind_info, context) : -UNW_ENOINFO;
 }
 
