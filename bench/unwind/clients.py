@@ -190,7 +190,7 @@ def perf(folder, work):
     """What perf writes for the recordings that there are."""
     own = pathlib.Path(work) / "own.perf"
     if not own.exists():
-        record = ["perf", "record", "-q", "-e", "cpu-clock:u", "--call-graph", "dwarf", "-o", str(own), build(work), "compute"]
+        record = ["perf", "record", "-q", "-N", "-e", "cpu-clock:u", "--call-graph", "dwarf", "-o", str(own), build(work), "compute"]
         if run(record, None) and not own.exists():
             print("note: the machine forbids perf to record, so only recordings that there are were read")
     lines = perf_lines(own, folder) if own.exists() else []

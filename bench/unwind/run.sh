@@ -55,7 +55,7 @@ heaptrack_times() {
 # A recording of the compiler: at 1,500 samples a second, in eight seconds.
 recordings() {
     g++ -E "$here/large.cc" -o "$work/large.ii" || return 1
-    [ -s "$work/compiler.perf" ] || perf record -q -F 1500 -e cpu-clock --call-graph dwarf,8192 -o "$work/compiler.perf" \
+    [ -s "$work/compiler.perf" ] || perf record -q -N -F 1500 -e cpu-clock --call-graph dwarf,8192 -o "$work/compiler.perf" \
         "$(g++ -print-prog-name=cc1plus)" -quiet -O2 "$work/large.ii" -o /dev/null || return 1
     local words=()
     [ ! -x "$top/build/dwcheck-elf" ] || words=(--profile "$top/build/dwcheck-elf")

@@ -18,9 +18,10 @@
    takes up to 60 KB of stack, and 200 KB with the longest records. Threads may use one address space at once.
 
    How the calls differ from libunwind's:
-   - Of another process: unw_proc_info_t's unwind_info is the address of the FDE there, and nothing to be freed. Records with a
-     length of eight bytes aren't read, rows are looked for in .eh_frame alone (dwarf_find_debug_frame finds nothing), unw_get_elf_filename returns -UNW_ENOINFO, and UNW_CACHE_PER_THREAD
-     is UNW_CACHE_GLOBAL. Core files (libunwind-coredump) aren't read.
+   - Of another process: unw_proc_info_t's unwind_info is the address of the FDE there, and nothing to be freed, so put_unwind_info
+     isn't called. Records with a length of eight bytes aren't read, rows are looked for in .eh_frame alone
+     (dwarf_find_debug_frame finds nothing), unw_get_elf_filename returns -UNW_ENOINFO, and UNW_CACHE_PER_THREAD is
+     UNW_CACHE_GLOBAL. Core files (libunwind-coredump) aren't read.
    - A cursor that unw_init_local hasn't filled in, or a null pointer in place of one, is refused: -UNW_EINVAL.
    - At a frame whose FDE the library refuses, or has no room for (dwcheck_row_in: an expression of more than 16 bytes), a
      step returns -UNW_EBADFRAME.

@@ -5,6 +5,8 @@
 
 #include <dlfcn.h>
 #include <pthread.h>
+#include <sys/ptrace.h>
+#include <sys/wait.h>
 
 /* ---- what is kept ---- */
 
@@ -166,6 +168,44 @@ static void registered_functions_are_found(void) {
     unw_destroy_addr_space(space);
 }
 
+/* ---- a process that continues elsewhere ---- */
+
+static volatile int is_left = 1;
+
+static __attribute__((noinline)) int stop_here(void) {
+    raise(SIGSTOP);
+    if (is_left) _exit(1); /* if it isn't left as the test wants */
+    return 0;
+}
+
+static int (*volatile stop)(void) = stop_here;
+
+static __attribute__((noinline)) void call_and_exit(void) {
+    ptrace(PTRACE_TRACEME, 0, NULL, NULL);
+    _exit(stop());
+}
+
+/* It continues where a call returns, in a frame above the one where it stopped, with another result of the call. */
+static void a_process_continues_in_a_caller(void) {
+    const pid_t child = fork();
+    if (child == 0) call_and_exit();
+    waitpid(child, NULL, 0);
+    unw_addr_space_t space = unw_create_addr_space(&_UPT_accessors, 0);
+    void *context = _UPT_create(child);
+    unw_cursor_t cursor;
+    char name[64] = "";
+    unw_word_t offset;
+    int status = 0;
+    IS(unw_init_remote(&cursor, space, context), 0);
+    while (strcmp(name, "call_and_exit") != 0 && unw_step(&cursor) > 0) unw_get_proc_name(&cursor, name, sizeof name, &offset);
+    IS(unw_set_reg(&cursor, UNW_X86_64_RAX, 42), 0);
+    IS(unw_resume(&cursor), 0);
+    waitpid(child, &status, 0);
+    IS(WIFEXITED(status) && WEXITSTATUS(status) == 42, 1);
+    _UPT_destroy(context);
+    unw_destroy_addr_space(space);
+}
+
 /* ---- threads with one address space; they have accessors that note nothing ---- */
 
 static int read_only(unw_addr_space_t space, unw_word_t address, unw_word_t *value, int is_write, void *context) {
@@ -215,6 +255,7 @@ static void try_all(void) {
     a_walk_has_the_frames(UNW_CACHE_GLOBAL);
     a_walk_has_the_frames(UNW_CACHE_PER_THREAD);
     registered_functions_are_found();
+    a_process_continues_in_a_caller();
     threads_share_rows();
 }
 
