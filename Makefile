@@ -24,8 +24,9 @@ INSTALL ?= install
 version := 2.0.0
 major := 2
 kit = $(dir $(shell rt doc))
+unwind := $(addprefix build/unwind/,libunwind.so.8 libunwind-x86_64.so.8 libunwind-ptrace.so.0)
 built := build/dwcheck build/libdwcheck.a build/libdwcheck.so.$(version) build/libdwcheck-dl.a build/libdwcheck-dl.so.$(version) \
-    build/unwind/libunwind.so.8 build/unwind/libunwind-x86_64.so.8 build/dwcheck.pc build/dwcheck-dl.pc
+    $(unwind) build/dwcheck.pc build/dwcheck-dl.pc
 pages := $(patsubst man/%.md,build/man/%,$(wildcard man/*.md))
 
 .PHONY: all try test packages dist install clean FORCE
@@ -109,14 +110,18 @@ build/libdwcheck-dl.so.$(version): build/libdwcheck-dl.a build/libdwcheck.so.$(v
 unwind_flags := -std=gnu11 -D_GNU_SOURCE -O2 -flto -fPIC -fstack-clash-protection -fasynchronous-unwind-tables -Wall -Wextra -Ic/include
 unwind_links := -shared -Wl,-z,defs -Wl,-z,now -Wl,-Bsymbolic-functions
 
-build/unwind/libunwind.so.8: $(wildcard c/unwind/*.[chS]) c/unwind/libunwind.map c/include/dwcheck-unwind.h build/libdwcheck-dl.a build/libdwcheck.a
+build/unwind/libunwind.so.8: $(wildcard c/unwind/*.[chS] c/unwind/remote/*) c/unwind/libunwind.map c/include/dwcheck-unwind.h build/libdwcheck-dl.a build/libdwcheck.a
 	@mkdir -p build/unwind
-	$(CC) $(unwind_flags) $(wildcard c/unwind/*.[cS]) build/libdwcheck-dl.a build/libdwcheck.a $(unwind_links) -Wl,-soname,libunwind.so.8 \
+	$(CC) $(unwind_flags) $(wildcard c/unwind/*.[cS] c/unwind/remote/*.c) build/libdwcheck-dl.a build/libdwcheck.a $(unwind_links) -Wl,-soname,libunwind.so.8 \
 	    -Wl,--version-script=c/unwind/libunwind.map -Wl,--no-as-needed -lgcc_s -o $@
 
 build/unwind/libunwind-x86_64.so.8: $(wildcard c/unwind/generic/*) c/include/dwcheck-unwind.h build/unwind/libunwind.so.8
 	$(CC) $(unwind_flags) $(wildcard c/unwind/generic/*.[cS]) build/unwind/libunwind.so.8 $(unwind_links) \
 	    -Wl,-rpath,'$$ORIGIN' -Wl,-soname,libunwind-x86_64.so.8 -Wl,--version-script=c/unwind/generic/libunwind-x86_64.map -o $@
+
+build/unwind/libunwind-ptrace.so.0: $(wildcard c/unwind/ptrace/*) c/unwind/symbols.c c/unwind/unwind.h c/include/dwcheck-unwind.h build/unwind/libunwind-x86_64.so.8
+	$(CC) $(unwind_flags) $(wildcard c/unwind/ptrace/*.c) c/unwind/symbols.c build/unwind/libunwind-x86_64.so.8 $(unwind_links) \
+	    -Wl,-rpath-link,build/unwind -Wl,-rpath,'$$ORIGIN' -Wl,-soname,libunwind-ptrace.so.0 -Wl,--version-script=c/unwind/ptrace/libunwind-ptrace.map -o $@
 
 build/%.pc: c/%.pc.in FORCE | build
 	@sed -e 's|@PREFIX@|$(PREFIX)|' -e 's|@LIBDIR@|$(patsubst $(PREFIX)/%,$${prefix}/%,$(LIBDIR))|' \
@@ -153,7 +158,7 @@ install: all
 	    ln -sf $$name.so.$(version) $(DESTDIR)$(LIBDIR)/$$name.so.$(major) && \
 	    ln -sf $$name.so.$(major) $(DESTDIR)$(LIBDIR)/$$name.so || exit 1; \
 	done
-	$(INSTALL) -m 755 build/unwind/libunwind.so.8 build/unwind/libunwind-x86_64.so.8 $(DESTDIR)$(LIBDIR)/dwcheck/
+	$(INSTALL) -m 755 $(unwind) $(DESTDIR)$(LIBDIR)/dwcheck/
 	$(INSTALL) -m 644 build/dwcheck.pc build/dwcheck-dl.pc $(DESTDIR)$(LIBDIR)/pkgconfig/
 	$(INSTALL) -m 644 c/dwcheckConfig.cmake $(DESTDIR)$(LIBDIR)/cmake/dwcheck/
 	sed 's/@VERSION@/$(version)/' c/dwcheckConfigVersion.cmake.in >$(DESTDIR)$(LIBDIR)/cmake/dwcheck/dwcheckConfigVersion.cmake

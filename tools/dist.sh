@@ -13,7 +13,7 @@ out=build/dist/$name
 
 [ -z "$(git status --porcelain)" ] || { echo "the tree has changes that aren't committed" >&2; exit 1; }
 for file in dwcheck dwcheck-elf libdwcheck.a "libdwcheck.so.$version" libdwcheck-dl.a "libdwcheck-dl.so.$version" \
-    unwind/libunwind.so.8 unwind/libunwind-x86_64.so.8 man/dwcheck.1 man/dwcheck-elf.1 man/dwcheck.3; do
+    unwind/libunwind.so.8 unwind/libunwind-x86_64.so.8 unwind/libunwind-ptrace.so.0 man/dwcheck.1 man/dwcheck-elf.1 man/dwcheck.3; do
     [ -f "build/$file" ] || { echo "build/$file isn't there: run make first" >&2; exit 1; }
 done
 
@@ -96,7 +96,7 @@ for library in libdwcheck libdwcheck-dl; do
     ln -s "$library.so.$version" "$out/lib/$library.so.2"
     ln -s "$library.so.2" "$out/lib/$library.so"
 done
-put 755 lib/unwind build/unwind/libunwind.so.8 build/unwind/libunwind-x86_64.so.8
+put 755 lib/unwind build/unwind/libunwind.so.8 build/unwind/libunwind-x86_64.so.8 build/unwind/libunwind-ptrace.so.0
 put 644 include c/include/dwcheck.h c/include/dwcheck.hpp c/include/dwcheck.cppm c/include/dwcheck-dl.h c/include/dwcheck-unwind.h
 install -d "$out/lib/pkgconfig"
 relocatable dwcheck

@@ -16,7 +16,7 @@ rust="librust-object-dev librust-gimli-dev librust-addr2line-dev librust-flate2-
 cargo="cargo rustc"
 # The last two lines are assemblers of other machines, which tests of dwcheck-elf use.
 test="gcc g++ libc6-dev make binutils pkg-config python3 python3-pyelftools rust-clippy rustfmt valgrind libc6-dbg gdb elfutils xz-utils zstd lz4 sqlite3 parallel slurmctld slurmd slurm-client
-    libunwind-dev heaptrack libgoogle-perftools4 libgoogle-glog-dev xvfb libgstreamer1.0-0 clang clang-16 lld llvm golang-go gdb-multiarch qemu-user linux-perf libc6-dev-i386 lib32gcc-12-dev
+    libunwind-dev heaptrack libgoogle-perftools4 libgoogle-glog-dev xvfb libgstreamer1.0-0 strace clang clang-16 lld llvm golang-go gdb-multiarch qemu-user linux-perf libc6-dev-i386 lib32gcc-12-dev
     gcc-aarch64-linux-gnu libc6-dev-arm64-cross gcc-arm-linux-gnueabihf libc6-dev-armhf-cross
     $(printf 'binutils-%s-linux-gnu ' i686 alpha hppa mips powerpc powerpc64 powerpc64le riscv64 s390x sparc64)
     binutils-aarch64-linux-gnu binutils-arm-linux-gnueabihf"

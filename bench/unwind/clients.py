@@ -10,8 +10,11 @@ FOLDER has our libunwind.so.8 (build/unwind). The clients, all if none is named:
     glog        what glog's handler of failures prints when the program crashes
     xvfb        what the X server prints when it crashes
     gstreamer   the stack of an object that isn't freed, by the tracer `leaks`
+    strace      the stack of each system call of two programs, by `strace -k`
+    perf        what perf script and perf report write for recordings with stacks: those of the tests of dwcheck-elf, and one of
+                the program of known stacks, if the machine allows to record
 Prints `ok NAME` or `FAILED NAME` for each, and at a failure where the stacks differ; the status is 1 if one failed.
-A client that isn't installed fails: heaptrack, google-perftools, libgoogle-glog-dev, xvfb, libgstreamer1.0-0.
+A client that isn't installed fails: heaptrack, google-perftools, libgoogle-glog-dev, xvfb, libgstreamer1.0-0, strace, linux-perf.
 """
 import argparse
 import os
@@ -26,6 +29,7 @@ import tempfile
 import time
 
 HERE = pathlib.Path(__file__).resolve().parent
+RECORDINGS = HERE.parent.parent / "rust/dwcheck-command/tests/recordings"
 # Frames of the library itself, and of a program that runs with another libunwind, lie at other addresses; so addresses are
 # compared by file and offset, and files are loaded where they were.
 FIXED = ["setarch", "-R"]
@@ -157,7 +161,46 @@ def gstreamer(folder, work):
     return [re.sub(r":0x[0-9a-f]+", "", line) for line in frames]
 
 
-CLIENTS = {"heaptrack": heaptrack, "heap": heap, "cpu": cpu, "glog": glog, "xvfb": xvfb, "gstreamer": gstreamer}
+def calls_of(text):
+    """The system calls that strace shows, each by its name and its frames."""
+    calls = re.findall(r"^(\w+)\(.*\n((?: > .*\n)*)", text, re.MULTILINE)
+    return {name + ":" + frames.replace("\n", "") for name, frames in calls if frames}
+
+
+def strace(folder, work):
+    """The stacks of two programs; and of a shell and its children, which have other programs at the same addresses."""
+    found, follow = set(), "cd / && find usr/share/doc -maxdepth 1 | wc -l && ls | sort"
+    for flags, command in ([], [build(work), "allocate"]), ([], ["ls", "-l", "/"]), (["-ff"], ["sh", "-c", follow]):
+        for file in pathlib.Path(work).glob("strace*"):
+            file.unlink()
+        run(["strace", "-E", "LD_LIBRARY_PATH", "-k", *flags, "-o", f"{work}/strace", *command], folder)
+        for file in pathlib.Path(work).glob("strace*"):
+            found |= calls_of(file.read_text(encoding="utf-8"))
+    return sorted(found)
+
+
+def perf_lines(file, folder, *flags):
+    """What perf writes for a recording."""
+    script = run(["perf", "script", "--no-inline", *flags, "-i", str(file)], folder)
+    report = run(["perf", "report", "--no-inline", "--stdio", "--stdio-color=never", *flags, "-i", str(file)], folder)
+    return script.splitlines() + [line for line in report.splitlines() if not line.startswith("# (Tip")]
+
+
+def perf(folder, work):
+    """What perf writes for the recordings that there are."""
+    own = pathlib.Path(work) / "own.perf"
+    if not own.exists():
+        record = ["perf", "record", "-q", "-N", "-e", "cpu-clock:u", "--call-graph", "dwarf", "-o", str(own), build(work), "compute"]
+        if run(record, None) and not own.exists():
+            print("note: the machine forbids perf to record, so only recordings that there are were read")
+    lines = perf_lines(own, folder) if own.exists() else []
+    for name in "dwarf", "zstd", "two", "group", "chain":
+        lines += perf_lines(RECORDINGS / f"{name}.perf", folder, "--symfs", str(RECORDINGS))
+    return lines
+
+
+CLIENTS = {"heaptrack": heaptrack, "heap": heap, "cpu": cpu, "glog": glog, "xvfb": xvfb, "gstreamer": gstreamer, "strace": strace,
+           "perf": perf}
 
 
 def try_client(name, folder, work):

@@ -2,8 +2,9 @@
 # libunwind's calls over the library, judged by others: libunwind's own tests, unchanged programs of Debian, the stacks at
 # allocations of large programs (preload.c), and times beside libunwind.
 #   bench/unwind/run.sh [FOLDER]     some minutes; FOLDER has our libunwind.so.8 (build/unwind)
-# `heaptrack` is timed with a C++ compiler as its program: its median of five runs with ours and with libunwind. WORK is a
-# folder in which what is built stays. This needs what clients.py and suite.sh need.
+# `heaptrack` is timed with a C++ compiler as its program: its median of five runs with ours and with libunwind. So is `perf
+# script`, with a recording of the compiler of some 100 MB, which is compared with `dwcheck-elf profile` if there is one in
+# build/. WORK is a folder in which what is built stays. This needs what clients.py and suite.sh need.
 set -u
 here=$(dirname "$(realpath "$0")")
 top=$(dirname "$(dirname "$here")")
@@ -51,10 +52,20 @@ heaptrack_times() {
     python3 -c "print(f'heaptrack of a C++ compiler: {$ours:.2f} s, with libunwind {$theirs:.2f} s: {$ours / $theirs:.2f}')"
 }
 
+# A recording of the compiler: at 1,500 samples a second, in eight seconds.
+recordings() {
+    g++ -E "$here/large.cc" -o "$work/large.ii" || return 1
+    [ -s "$work/compiler.perf" ] || perf record -q -N -F 1500 -e cpu-clock --call-graph dwarf,8192 -o "$work/compiler.perf" \
+        "$(g++ -print-prog-name=cc1plus)" -quiet -O2 "$work/large.ii" -o /dev/null || return 1
+    local words=()
+    [ ! -x "$top/build/dwcheck-elf" ] || words=(--profile "$top/build/dwcheck-elf")
+    "$here/recordings.py" "$folder" "$work/compiler.perf" "${words[@]}"
+}
+
 WORK=$work/suite "$here/suite.sh" "$folder" || status=1
 "$here/clients.py" "$folder" || status=1
 compare_in_programs || status=1
 times || status=1
-heaptrack_compare_in_programs || status=1
-times || status=1
+heaptrack_times || status=1
+recordings || status=1
 exit $status

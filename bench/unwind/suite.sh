@@ -1,7 +1,7 @@
 #!/usr/bin/env bash
 # Runs the tests of libunwind itself, unchanged, with our libraries in the place of its own.
 #   bench/unwind/suite.sh FOLDER     FOLDER has our libunwind.so.8 (build/unwind)
-# Half a minute. The tests are compiled from Debian's source, which apt fetches. These variables may be set:
+# A minute. The tests are compiled from Debian's source, which apt fetches. These variables may be set:
 #   WORK      a folder in which the source stays; else it is fetched each time
 #   SOURCE    a folder with the unpacked source, which isn't fetched then
 # This needs libunwind-dev.
@@ -27,27 +27,40 @@ fetch() {
 
 # Compiles a test as libunwind's Makefile does, and links it to those of Debian's libraries that it needs.
 build() { # TEST
-    local more= compiler="gcc -std=gnu11" file
+    local more= libraries= compiler="gcc -std=gnu11" file
     case $1 in
-    *test-bt | *test-trace) more=ident.c ;;
+    *test-bt | *test-trace | test-ptrace-misc) more=ident.c ;;
+    test-ptrace)
+        mkdir -p "$work/config" && : > "$work/config/config.h"
+        more="-I$work/config $(printf -- '-DHAVE_DECL_PTRACE_%s=1 ' TRACEME CONT SINGLESTEP SYSCALL)" libraries=-lunwind-ptrace
+        ;;
     *dwarf-expressions) more=x64-test-dwarf-expressions.S ;;
     Ltest-init-local-signal) more=Ltest-init-local-signal-lib.c ;;
     esac
     file=$(cd "$source/tests" && ls "$1.c" "$1.cxx" 2> /dev/null)
     case $file in *.cxx) compiler=g++ ;; esac
     (cd "$source/tests" && $compiler -w -g -O2 -fno-optimize-sibling-calls -fexceptions -D_GNU_SOURCE -DHAVE_EXECINFO_H=1 \
-        -DHAVE_SYS_PTRACE_H=1 -I../include "$file" $more -Wl,--as-needed -lunwind-x86_64 -lunwind -lpthread -ldl -o "$work/$1") > "$work/build.log" 2>&1
+        -DHAVE_SYS_PTRACE_H=1 -I../include "$file" $more -Wl,--as-needed $libraries -lunwind-x86_64 -lunwind -lpthread -ldl -o "$work/$1") > "$work/build.log" 2>&1
 }
 
-run() { # TEST LIBRARIES: runs a test with the libraries of a folder, or with the system's
-    env ${2:+LD_LIBRARY_PATH="$2"} timeout 120 "$work/$1" > "$work/$1.log" 2>&1
+run() { # LIBRARIES TEST WORD..: runs a test with the libraries of a folder, or with the system's
+    local libraries=$1 test=$2
+    shift 2
+    env ${libraries:+LD_LIBRARY_PATH="$libraries"} timeout 120 "$work/$test" "$@" > "$work/$test.log" 2>&1
 }
 
-passes() { # TEST
+passes() { # TEST WORD..
     build "$1" || { tail -n 3 "$work/build.log"; return 1; }
-    run "$1" "$folder" && return 0
+    run "$folder" "$@" && return 0
     tail -n 5 "$work/$1.log"
-    ! run "$1" "" && echo "it fails with libunwind, too"
+    ! run "" "$@" && echo "it fails with libunwind, too"
+}
+
+# What the scripts run-ptrace-mapper and run-ptrace-misc do: test-ptrace takes the stack of a program after each instruction,
+# where the program asks for that.
+follows() { # WORD.. PROGRAM
+    local program=${*: -1}
+    build "$program" && passes test-ptrace -c "${@:1:$#-1}" -t "$work/$program"
 }
 
 leave_out() { # REASON TEST..
@@ -63,11 +76,11 @@ for test in test-strerror Gtest-bt Ltest-bt Gtest-exc Ltest-exc Gtest-init Ltest
     Gtest-resume-sig Ltest-resume-sig Gtest-resume-sig-rt Ltest-resume-sig-rt Gtest-trace Ltest-trace Ltest-init-local-signal \
     Ltest-mem-validate test-async-sig test-flush-cache test-init-remote test-mem test-reg-state Ltest-varargs Ltest-nomalloc \
     Ltest-nocalloc Lrs-race Ltest-cxx-exceptions Gx64-test-dwarf-expressions Lx64-test-dwarf-expressions \
-    x64-unwind-badjmp-signal-frame; do
+    x64-unwind-badjmp-signal-frame test-proc-info test-ptrace; do
     test_of "$test" passes "$test"
 done
-leave_out "it walks by accessors of its own, as for another process" test-proc-info
-leave_out "it walks another process" test-ptrace run-ptrace-mapper run-ptrace-misc
+test_of run-ptrace-mapper follows -n mapper
+test_of run-ptrace-misc follows test-ptrace-misc
 leave_out "it walks a core file, and fails with libunwind" run-coredump-unwind run-coredump-unwind-mdi
 leave_out "it is linked statically, so it would not run with ours" test-static-link
 leave_out "libunwind-setjmp has libunwind in itself" test-setjmp

@@ -1,17 +1,27 @@
-/* dwcheck-unwind: libunwind's calls for the stack of the running process, over the walks of dwcheck.h. The libraries
-   build/unwind/libunwind.so.8 and libunwind-x86_64.so.8 have the names and the binary interface of libunwind 1.6 and 1.8
-   for x86-64 Linux with glibc 2.35 or later: a program that is linked to libunwind uses them by its library path alone.
+/* dwcheck-unwind: libunwind's calls for the stacks of the running process and of others, over the walks of dwcheck.h. The
+   libraries build/unwind/libunwind.so.8, libunwind-x86_64.so.8 and libunwind-ptrace.so.0 have the names and the binary
+   interface of libunwind 1.6 and 1.8 for x86-64 Linux with glibc 2.35 or later: a program that is linked to libunwind uses
+   them by its library path alone.
    This header is for programs that are built new; it declares the same names and types as <libunwind.h>, so a file
    includes one of the two. The rows of frames are looked up and walked by proved calls; the rest is plain C, which is
    tested and not proved.
 
-   A call that fails returns the negative of a number below. Any thread may make the calls, also in a signal handler, but
-   for _U_dyn_register and _U_dyn_cancel. They neither allocate nor lock, and take up to 4 KB of stack. A handler that
-   leaves a call by siglongjmp takes one of 64 caches away; without a free one a call returns -UNW_ENOMEM.
+   A call that fails returns the negative of a number below. Of the running process, any thread may make the calls, also in a
+   signal handler, but for _U_dyn_register and _U_dyn_cancel. They neither allocate nor lock, and take up to 4 KB of stack. A
+   handler that leaves a call by siglongjmp takes one of 64 caches away; without a free one a call returns -UNW_ENOMEM.
+
+   Another process is read by the caller's accessors alone. What an accessor returns where it fails, the call returns. An
+   accessor may give wrong values, make any call, also with the cursor of the call that asks, or leave that by longjmp, and
+   then the cursor is as it was. A step asks for each word of the stack once, and for each of an FDE and its CIE, which it
+   copies; these have at most 64 KB each. Unless the policy is UNW_CACHE_NONE, rows that were found are kept on the heap until
+   they are flushed, for each context: in some 1.3 MB where there are thousands of functions, and in 3.2 MB at most. A step
+   takes up to 60 KB of stack, and 200 KB with the longest records. Threads may use one address space at once.
 
    How the calls differ from libunwind's:
-   - Another process can't be walked: unw_create_addr_space returns NULL, unw_init_remote takes the local address space
-     alone, and the search of tables (dwarf_search_unwind_table and such) returns -UNW_ENOINFO.
+   - Of another process: unw_proc_info_t's unwind_info is the address of the FDE there, and nothing to be freed, so put_unwind_info
+     isn't called. Records with a length of eight bytes aren't read, rows are looked for in .eh_frame alone
+     (dwarf_find_debug_frame finds nothing), unw_get_elf_filename returns -UNW_ENOINFO, and UNW_CACHE_PER_THREAD is
+     UNW_CACHE_GLOBAL. Core files (libunwind-coredump) aren't read.
    - A cursor that unw_init_local hasn't filled in, or a null pointer in place of one, is refused: -UNW_EINVAL.
    - At a frame whose FDE the library refuses, or has no room for (dwcheck_row_in: an expression of more than 16 bytes), a
      step returns -UNW_EBADFRAME.
@@ -255,6 +265,25 @@ int unw_apply_reg_state(unw_cursor_t *cursor, void *state);
 int unw_backtrace(void **addresses, int size);
 /* The same from a context, whose own address is the first. */
 int unw_backtrace2(void **addresses, int size, unw_context_t *context, int flag);
+
+/* ---- other processes --------------------------------------------------------------------------------------------- */
+/* The accessors of a process that ptrace has stopped, in libunwind-ptrace.so.0; `context` is what _UPT_create returns. */
+void *_UPT_create(int process);
+void _UPT_destroy(void *context);
+int _UPT_find_proc_info(unw_addr_space_t space, unw_word_t address, unw_proc_info_t *info, int need_unwind_info, void *context);
+void _UPT_put_unwind_info(unw_addr_space_t space, unw_proc_info_t *info, void *context);
+int _UPT_get_dyn_info_list_addr(unw_addr_space_t space, unw_word_t *address, void *context);
+int _UPT_access_mem(unw_addr_space_t space, unw_word_t address, unw_word_t *value, int is_write, void *context);
+int _UPT_access_reg(unw_addr_space_t space, unw_regnum_t number, unw_word_t *value, int is_write, void *context);
+int _UPT_access_fpreg(unw_addr_space_t space, unw_regnum_t number, unw_fpreg_t *value, int is_write, void *context);
+int _UPT_get_proc_name(unw_addr_space_t space, unw_word_t address, char *name, size_t size, unw_word_t *offset, void *context);
+int _UPT_resume(unw_addr_space_t space, unw_cursor_t *cursor, void *context);
+extern unw_accessors_t _UPT_accessors;
+
+/* Searches a table of another process, in a find_proc_info. `unwind_info` becomes the address of the FDE there. */
+#define dwarf_search_unwind_table _ULx86_64_dwarf_search_unwind_table
+int dwarf_search_unwind_table(unw_addr_space_t space, unw_word_t address, unw_dyn_info_t *table, unw_proc_info_t *info,
+                              int need_unwind_info, void *context);
 
 /* By what the frame was found at which a cursor is: 0 if it was by the row of the frame that it called, else by one of
    libunwind's guesses, which is made where no row covers the address. Not in libunwind. */

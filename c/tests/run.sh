@@ -290,14 +290,14 @@ names_in() { # LIBRARY..: the names that they export
     nm -D --defined-only "$@" | awk 'NF == 3 { print $3 }' | sort -u
 }
 
-# Each name that libunwind's two libraries export, but for those that programs find in libgcc_s and the C library, and three
+# Each name that libunwind's three libraries export, but for those that programs find in libgcc_s and the C library, and three
 # helpers of libunwind's own; and each one that our header declares.
 unwind_names() {
-    names_in "$unwind"/*.so.8 > "$out/ours"
+    names_in "$unwind"/*.so.? > "$out/ours"
     {
-        names_in "$(of_libunwind libunwind.so.8)" "$(of_libunwind libunwind-x86_64.so.8)" |
+        names_in "$(of_libunwind libunwind.so.8)" "$(of_libunwind libunwind-x86_64.so.8)" "$(of_libunwind libunwind-ptrace.so.0)" |
             grep -vx 'backtrace\|_Unwind_.*\|_ReadULEB\|_ReadSLEB\|__libunwind_Unwind_GetBSP'
-        cc -E -P -I"$top/c/include" -include dwcheck-unwind.h -x c /dev/null | grep -o '\b_Ux86_64_[a-z_0-9]*\|\b_ULx86_64_[a-z_0-9]*\|\b_U_dyn_[a-z_]*(' | tr -d '('
+        cc -E -P -I"$top/c/include" -include dwcheck-unwind.h -x c /dev/null | grep -o '\b_Ux86_64_[a-z_0-9]*\|\b_ULx86_64_[a-z_0-9]*\|\b_U_dyn_[a-z_]*(\|\b_UPT_[a-z_]*' | tr -d '('
     } | sort -u > "$out/wanted"
     comm -13 "$out/ours" "$out/wanted" > "$out/absent"
     cat "$out/absent"
@@ -312,6 +312,21 @@ build_unwind() { # FLAG..: builds the tests of libunwind's calls. Its PLT has no
 unwind_input() { # builds the tests of these calls with bad input, and runs them
     cc -std=gnu11 -D_GNU_SOURCE $strict -O2 -g "$top/c/tests/unwind_input.c" "$unwind/libunwind.so.8" "-Wl,-rpath,$unwind" -o "$out/unwind_input" &&
         "$out/unwind_input"
+}
+
+build_unwind_remote() { # PROGRAM FLAG..: builds tests of these calls for other processes
+    local program=$1
+    shift
+    cc -std=gnu11 -D_GNU_SOURCE $strict -O2 -g "$@" "$top/c/tests/$program.c" "$unwind/libunwind-ptrace.so.0" \
+        "$unwind/libunwind.so.8" "-Wl,-rpath,$unwind" -o "$out/$program" -pthread -ldl
+}
+
+unwind_remote() {
+    build_unwind_remote unwind_remote && "$out/unwind_remote" "$(of_libunwind libunwind-x86_64.so.8)"
+}
+
+unwind_remote_input() {
+    build_unwind_remote unwind_remote_input && "$out/unwind_remote_input"
 }
 
 unwind() { # builds these tests and runs them beside libunwind
@@ -369,6 +384,8 @@ test_of "types of libunwind have the same layout" unwind_layouts
 test_of "the libraries with libunwind's names export all of them" unwind_names
 test_of "frames by libunwind's calls are those of libunwind" unwind
 test_of "libunwind's calls answer cursors and contexts of any bytes" unwind_input
+test_of "frames of other processes are those of libunwind" unwind_remote
+test_of "libunwind's calls bear accessors that fail, lie, step and leave" unwind_remote_input
 test_of "the header for C++ as C++17, beside that for C" wrapper c++17
 test_of "the header for C++ as C++20, whose frames are a range" wrapper c++20
 test_of "the header for C++ as a module of C++20" as_module

@@ -48,10 +48,10 @@ static void move_place(const struct step *step, const dwcheck_state *state, cons
     struct place *place = &step->places[rule->reg];
     switch (rule->kind) {
     case DWCHECK_RULE_SAME_VALUE: break;
-    case DWCHECK_RULE_OFFSET: *place = (struct place){address, true}; break;
+    case DWCHECK_RULE_OFFSET: *place = (struct place){address, PLACE_MEMORY}; break;
     case DWCHECK_RULE_REGISTER: *place = rule->source < REGISTERS ? before[rule->source] : (struct place){0}; break;
     case DWCHECK_RULE_EXPRESSION:
-        place->is_saved = expression_of(step, state, rule, &place->address);
+        place->kind = expression_of(step, state, rule, &place->at) ? PLACE_MEMORY : PLACE_NONE;
         break;
     default: *place = (struct place){0};
     }

@@ -1,17 +1,26 @@
-/* The calls of libunwind, under the names that its header gives to local ones. */
+/* The calls of libunwind, under the names that its header gives to local ones. A cursor of another process, or such an address
+   space, is passed on (remote/). */
 #include "layout.h"
+#include "remote/remote.h"
 #include "unwind.h"
 
+#include <endian.h>
+#include <stdlib.h>
 #include <string.h>
 
-/* The local address space is known by its address alone. */
-struct unw_addr_space { unw_accessors_t accessors; unw_caching_policy_t policy; };
+static struct unw_addr_space local;
 
 #define MARK UINT64_C(0x646e776e752d6b63) /* what a cursor begins with once a call has filled it in */
 
 static struct cursor *cursor_of(unw_cursor_t *cursor) {
     struct cursor *own = (void *)cursor;
     return own && own->mark == MARK ? own : NULL;
+}
+
+/* The frame of a cursor of either kind; NULL if it is none. */
+static const struct frame *frame_of(const unw_cursor_t *cursor) {
+    const struct cursor *own = (const void *)cursor;
+    return own && own->mark == MARK ? &own->frame : dwcheck_remote_frame(cursor);
 }
 
 int unw_init_local2(unw_cursor_t *cursor, unw_context_t *context, int flag) {
@@ -25,12 +34,12 @@ int unw_init_local2(unw_cursor_t *cursor, unw_context_t *context, int flag) {
 int unw_init_local(unw_cursor_t *cursor, unw_context_t *context) { return unw_init_local2(cursor, context, 0); }
 
 int unw_init_remote(unw_cursor_t *cursor, unw_addr_space_t space, void *context) {
-    return space == unw_local_addr_space ? unw_init_local(cursor, context) : -UNW_EINVAL;
+    return space == unw_local_addr_space ? unw_init_local(cursor, context) : dwcheck_remote_init(cursor, space, context);
 }
 
 int unw_step(unw_cursor_t *cursor) {
     struct cursor *own = cursor_of(cursor);
-    if (!own) return -UNW_EINVAL;
+    if (!own) return dwcheck_remote_step(cursor);
     if (own->frame.is_last) return 0;
     struct cache *cache = dwcheck_unwind_claim();
     if (!cache) return -UNW_ENOMEM;
@@ -44,7 +53,8 @@ int unw_step(unw_cursor_t *cursor) {
 
 int unw_get_reg(unw_cursor_t *cursor, int number, unw_word_t *value) {
     const struct cursor *own = cursor_of(cursor);
-    if (!own || !value) return -UNW_EINVAL;
+    if (!own) return dwcheck_remote_get_reg(cursor, number, value);
+    if (!value) return -UNW_EINVAL;
     if (number == UNW_X86_64_CFA) number = RSP;
     if (number < 0 || number >= REGISTERS) return -UNW_EBADREG;
     if (number != RIP && !(own->frame.known >> number & 1)) return -UNW_EBADREG;
@@ -56,15 +66,15 @@ int unw_get_reg(unw_cursor_t *cursor, int number, unw_word_t *value) {
 static int write_place(struct cursor *own, int number, unw_word_t value) {
     struct place places[REGISTERS];
     if (!dwcheck_unwind_places(own, places)) return -UNW_EUNSPEC;
-    if (!places[number].is_saved || !dwcheck_unwind_can_read(places[number].address, sizeof value)) return -UNW_EBADREG;
-    memcpy((void *)places[number].address, &value, sizeof value);
+    if (places[number].kind != PLACE_MEMORY || !dwcheck_unwind_can_read(places[number].at, sizeof value)) return -UNW_EBADREG;
+    memcpy((void *)places[number].at, &value, sizeof value);
     return 0;
 }
 
 /* The registers in which a landing pad gets its arguments are the cursor's alone, as in libunwind. */
 int unw_set_reg(unw_cursor_t *cursor, int number, unw_word_t value) {
     struct cursor *own = cursor_of(cursor);
-    if (!own) return -UNW_EINVAL;
+    if (!own) return dwcheck_remote_set_reg(cursor, number, value);
     if (number == UNW_X86_64_CFA || number == RSP) return -UNW_EREADONLYREG;
     if (number < 0 || number >= REGISTERS) return -UNW_EBADREG;
     bool is_argument = number == UNW_X86_64_RAX || number == UNW_X86_64_RDX;
@@ -78,41 +88,40 @@ int unw_set_reg(unw_cursor_t *cursor, int number, unw_word_t value) {
 
 int unw_get_fpreg(unw_cursor_t *cursor, int number, unw_fpreg_t *value) {
     (void)number, (void)value;
-    return cursor_of(cursor) ? -UNW_EBADREG : -UNW_EINVAL;
+    return frame_of(cursor) ? -UNW_EBADREG : -UNW_EINVAL;
 }
 
 int unw_set_fpreg(unw_cursor_t *cursor, int number, unw_fpreg_t value) {
     (void)number, (void)value;
-    return cursor_of(cursor) ? -UNW_EBADREG : -UNW_EINVAL;
+    return frame_of(cursor) ? -UNW_EBADREG : -UNW_EINVAL;
 }
 
 int unw_get_save_loc(unw_cursor_t *cursor, int number, unw_save_loc_t *location) {
     const struct cursor *own = cursor_of(cursor);
     struct place places[REGISTERS];
-    if (!own || !location) return -UNW_EINVAL;
+    if (!own) return dwcheck_remote_get_save_loc(cursor, number, location);
+    if (!location) return -UNW_EINVAL;
     memset(location, 0, sizeof *location);
     if (number < 0 || number >= REGISTERS || !(KEPT_REGISTERS >> number & 1)) return 0;
     if (!dwcheck_unwind_places(own, places)) return -UNW_EUNSPEC;
-    if (!places[number].is_saved) return 0;
-    location->type = UNW_SLT_MEMORY;
-    location->u.addr = places[number].address;
+    dwcheck_unwind_put_place(places[number], location);
     return 0;
 }
 
 int unw_is_signal_frame(unw_cursor_t *cursor) {
-    const struct cursor *own = cursor_of(cursor);
-    return own ? (int)own->frame.is_interrupted : -UNW_EINVAL;
+    const struct frame *frame = frame_of(cursor);
+    return frame ? (int)frame->is_interrupted : -UNW_EINVAL;
 }
 
 int unw_is_guess(unw_cursor_t *cursor) {
-    const struct cursor *own = cursor_of(cursor);
-    return own ? (int)own->frame.guess : -UNW_EINVAL;
+    const struct frame *frame = frame_of(cursor);
+    return frame ? (int)frame->guess : -UNW_EINVAL;
 }
 
 /* If the walk has left a signal handler, continues as if the handler returned, so that the signal mask is restored. */
 int unw_resume(unw_cursor_t *cursor) {
     struct cursor *own = cursor_of(cursor);
-    if (!own) return -UNW_EINVAL;
+    if (!own) return dwcheck_remote_resume(cursor);
     if (own->frame.is_last || !(own->frame.known >> RSP & 1)) return -UNW_EBADFRAME;
     ucontext_t *saved = (void *)own->frame.signal_context;
     if (!saved) dwcheck_unwind_continue(own->frame.values);
@@ -123,9 +132,6 @@ int unw_resume(unw_cursor_t *cursor) {
 }
 
 /* ---- rows of a function ---- */
-
-/* A row, as unw_reg_states_iterate passes it on: one of its addresses, by which it is found again. */
-struct row_state { uint64_t mark, address; };
 
 struct row_look_up { const struct dwcheck_dl_module *module; uint64_t address; dwcheck_row row; uint32_t status; };
 
@@ -155,12 +161,13 @@ int unw_reg_states_iterate(unw_cursor_t *cursor, unw_reg_states_callback callbac
     unw_proc_info_t info;
     struct dwcheck_dl_module module;
     dwcheck_row row;
-    if (!own || !callback) return -UNW_EINVAL;
+    if (!own) return dwcheck_remote_rows(cursor, callback, token);
+    if (!callback) return -UNW_EINVAL;
     int result = dwcheck_unwind_procedure(own->frame.key - 1, &info);
     if (result == 0 && !dwcheck_unwind_module_at(own->frame.key - 1, &module)) result = -UNW_ENOINFO;
     for (uint64_t address = info.start_ip; result >= 0 && address < info.end_ip; address = row.end + module.load_address) {
         if (!row_at(&module, address, &row)) return -UNW_EBADFRAME;
-        struct row_state state = {MARK, address};
+        struct row_state state = {ROW_MARK, address};
         result = callback(token, &state, sizeof state, address, row.end + module.load_address);
     }
     return result;
@@ -169,7 +176,8 @@ int unw_reg_states_iterate(unw_cursor_t *cursor, unw_reg_states_callback callbac
 int unw_apply_reg_state(unw_cursor_t *cursor, void *state) {
     struct cursor *own = cursor_of(cursor);
     const struct row_state *row = state;
-    if (!own || !row || row->mark != MARK) return -UNW_EINVAL;
+    if (!row || row->mark != ROW_MARK) return -UNW_EINVAL;
+    if (!own) return dwcheck_remote_apply_row(cursor, row->address);
     struct cache *cache = dwcheck_unwind_claim();
     if (!cache) return -UNW_ENOMEM;
     int result = dwcheck_unwind_step_by(cache, &own->frame, &own->memory, row->address + 1);
@@ -183,7 +191,8 @@ int unw_apply_reg_state(unw_cursor_t *cursor, void *state) {
 /* On x86-64 some functions where a stack begins have no FDE, so libunwind gives them one address. */
 int unw_get_proc_info(unw_cursor_t *cursor, unw_proc_info_t *info) {
     const struct cursor *own = cursor_of(cursor);
-    if (!own || !info) return -UNW_EINVAL;
+    if (!own) return dwcheck_remote_get_proc_info(cursor, info);
+    if (!info) return -UNW_EINVAL;
     if (dwcheck_unwind_procedure(own->frame.key - 1, info) == 0) return 0;
     memset(info, 0, sizeof *info);
     info->start_ip = own->frame.values[RIP];
@@ -192,9 +201,8 @@ int unw_get_proc_info(unw_cursor_t *cursor, unw_proc_info_t *info) {
 }
 
 int unw_get_proc_info_by_ip(unw_addr_space_t space, unw_word_t address, unw_proc_info_t *info, void *context) {
-    (void)context;
-    if (space != unw_local_addr_space || !info) return -UNW_EINVAL;
-    return dwcheck_unwind_procedure(address, info);
+    if (!space || !info) return -UNW_EINVAL;
+    return space == &local ? dwcheck_unwind_procedure(address, info) : dwcheck_remote_find(space, address, info, 0, context);
 }
 
 int unw_get_proc_info_in_range(unw_word_t start, unw_word_t end, unw_word_t table, unw_word_t table_length,
@@ -207,15 +215,16 @@ int unw_get_proc_info_in_range(unw_word_t start, unw_word_t end, unw_word_t tabl
 
 int unw_get_proc_name_by_ip(unw_addr_space_t space, unw_word_t address, char *name, size_t size, unw_word_t *offset,
                             void *context) {
-    (void)context;
-    if (space != unw_local_addr_space || !name || size == 0) return -UNW_EINVAL;
+    if (!space || !name || size == 0) return -UNW_EINVAL;
+    if (space != &local) return dwcheck_remote_name_of(space, address, name, size, offset, context);
     return dwcheck_unwind_name(address, name, size, offset);
 }
 
 int unw_get_elf_filename_by_ip(unw_addr_space_t space, unw_word_t address, char *name, size_t size, unw_word_t *offset,
                                void *context) {
     (void)context;
-    if (space != unw_local_addr_space || !name || size == 0) return -UNW_EINVAL;
+    if (!name || size == 0) return -UNW_EINVAL;
+    if (space != &local) return -UNW_ENOINFO;
     return dwcheck_unwind_file(address, name, size, offset);
 }
 
@@ -230,10 +239,12 @@ static int at_frame(unw_cursor_t *cursor, char *name, size_t size, unw_word_t *o
 }
 
 int unw_get_proc_name(unw_cursor_t *cursor, char *name, size_t size, unw_word_t *offset) {
+    if (!cursor_of(cursor)) return dwcheck_remote_get_proc_name(cursor, name, size, offset);
     return at_frame(cursor, name, size, offset, dwcheck_unwind_name);
 }
 
 int unw_get_elf_filename(unw_cursor_t *cursor, char *name, size_t size, unw_word_t *offset) {
+    if (dwcheck_remote_frame(cursor)) return -UNW_ENOINFO;
     return at_frame(cursor, name, size, offset, dwcheck_unwind_file);
 }
 
@@ -303,32 +314,49 @@ static struct unw_addr_space local = {
     .policy = UNW_CACHE_GLOBAL};
 unw_addr_space_t unw_local_addr_space = &local;
 
+/* Of the accessors, libunwind 1.6 has those before get_elf_filename, and a program that was compiled for it passes no more. */
 unw_addr_space_t unw_create_addr_space(unw_accessors_t *accessors, int byte_order) {
-    (void)accessors, (void)byte_order;
+    if (!accessors || (byte_order != 0 && byte_order != LITTLE_ENDIAN)) return NULL;
+    unw_addr_space_t space = calloc(1, sizeof *space);
+    if (!space) return NULL;
+    memcpy(&space->accessors, accessors, offsetof(unw_accessors_t, get_elf_filename));
+    space->policy = UNW_CACHE_NONE;
+    space->kept = dwcheck_remote_new();
+    if (space->kept) return space;
+    free(space);
     return NULL;
 }
 
-void unw_destroy_addr_space(unw_addr_space_t space) { (void)space; }
+void unw_destroy_addr_space(unw_addr_space_t space) {
+    if (!space || space == &local) return;
+    dwcheck_remote_free(space->kept);
+    free(space);
+}
 
 unw_accessors_t *unw_get_accessors(unw_addr_space_t space) { return space ? &space->accessors : NULL; }
 
+/* All rows are forgotten, and not only those of a range. */
+static void flush(unw_addr_space_t space) {
+    if (space == &local) dwcheck_unwind_flush();
+    else __atomic_fetch_add(&space->generation, 1, __ATOMIC_ACQ_REL);
+}
+
 void unw_flush_cache(unw_addr_space_t space, unw_word_t low, unw_word_t high) {
-    (void)space, (void)low, (void)high;
-    dwcheck_unwind_flush();
+    (void)low, (void)high;
+    if (space) flush(space);
 }
 
 int unw_set_caching_policy(unw_addr_space_t space, unw_caching_policy_t policy) {
-    if (space != &local || (policy != UNW_CACHE_NONE && policy != UNW_CACHE_GLOBAL && policy != UNW_CACHE_PER_THREAD))
-        return -UNW_EINVAL;
-    if (space->policy != policy) dwcheck_unwind_flush();
+    if (!space || (policy != UNW_CACHE_NONE && policy != UNW_CACHE_GLOBAL && policy != UNW_CACHE_PER_THREAD)) return -UNW_EINVAL;
+    if (space->policy != policy) flush(space);
     space->policy = policy;
     return 0;
 }
 
 int unw_set_cache_size(unw_addr_space_t space, size_t size, int flag) {
     (void)size;
-    if (space != &local || flag != 0) return -UNW_EUNSPEC;
-    dwcheck_unwind_flush();
+    if (!space || flag != 0) return -UNW_EUNSPEC;
+    flush(space);
     return 0;
 }
 

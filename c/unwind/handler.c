@@ -17,6 +17,6 @@ bool dwcheck_unwind_leave_handler(struct frame *frame, struct memory *memory, st
     frame->is_interrupted = 1;
     frame->signal_context = saved;
     for (int i = 0; places && i < REGISTERS; i++)
-        places[i] = (struct place){(uint64_t)dwcheck_unwind_in_context(context, i), true};
+        places[i] = (struct place){(uint64_t)dwcheck_unwind_in_context(context, i), PLACE_MEMORY};
     return true;
 }

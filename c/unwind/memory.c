@@ -39,6 +39,13 @@ bool dwcheck_unwind_read(uint64_t address, uint64_t *word) {
     return true;
 }
 
+static bool read_own(void *data, uint64_t address, uint64_t *word) {
+    (void)data;
+    return dwcheck_unwind_read(address, word);
+}
+
+const struct word_reader dwcheck_unwind_own_memory = {read_own, NULL};
+
 static dwcheck_block block_of(uint64_t low, uint64_t end) {
     if (low >= end) return (dwcheck_block){low, &nothing, 0};
     return (dwcheck_block){low, (const uint8_t *)low, end - low};

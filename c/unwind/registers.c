@@ -2,6 +2,8 @@
    ask for it: a walk from the context to the frame finds it. */
 #include "unwind.h"
 
+#include <string.h>
+
 /* The places of registers in a context, by their DWARF numbers. */
 static const uint8_t in_context[REGISTERS] = {REG_RAX, REG_RDX, REG_RCX, REG_RBX, REG_RSI, REG_RDI, REG_RBP, REG_RSP, REG_R8,
                                               REG_R9,  REG_R10, REG_R11, REG_R12, REG_R13, REG_R14, REG_R15, REG_RIP};
@@ -19,13 +21,19 @@ void dwcheck_unwind_frame_of(struct frame *frame, const ucontext_t *context, boo
     frame->signal_context = 0;
 }
 
+void dwcheck_unwind_put_place(struct place place, unw_save_loc_t *location) {
+    memset(location, 0, sizeof *location);
+    if (place.kind == PLACE_MEMORY) location->type = UNW_SLT_MEMORY, location->u.addr = place.at;
+    if (place.kind == PLACE_REGISTER) location->type = UNW_SLT_REG, location->u.regnum = (unw_regnum_t)place.at;
+}
+
 bool dwcheck_unwind_places(const struct cursor *cursor, struct place places[REGISTERS]) {
     struct frame frame;
     struct memory memory = {0};
     if (cursor->has_no_places) return false;
     dwcheck_unwind_frame_of(&frame, cursor->context, cursor->is_exact);
     for (int i = 0; i < REGISTERS; i++)
-        places[i] = (struct place){(uint64_t)dwcheck_unwind_in_context(cursor->context, i), true};
+        places[i] = (struct place){(uint64_t)dwcheck_unwind_in_context(cursor->context, i), PLACE_MEMORY};
     struct cache *cache = cursor->steps ? dwcheck_unwind_claim() : NULL;
     if (cursor->steps && !cache) return false;
     uint64_t steps = 0;

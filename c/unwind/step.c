@@ -55,7 +55,7 @@ static int step(struct cache *cache, struct frame *frame, struct memory *memory,
     const bool has_row = result == BY_ROW, is_by_cursor = has_row || result == BY_CURSOR;
     if (is_by_cursor && dwcheck_unwind_leave_handler(frame, memory, places, has_row)) return 1;
     if (is_by_cursor) result = dwcheck_unwind_by_cursor(cache, frame, memory, frame->key, places);
-    return result == BY_GUESS || result == -UNW_ENOINFO ? dwcheck_unwind_guess(frame, places) : result;
+    return result == BY_GUESS || result == -UNW_ENOINFO ? dwcheck_unwind_guess(frame, places, &dwcheck_unwind_own_memory) : result;
 }
 
 int dwcheck_unwind_step(struct cache *cache, struct frame *frame, struct memory *memory, struct place *places) {

@@ -33,6 +33,10 @@ HIDDEN bool dwcheck_unwind_can_read(uint64_t address, uint64_t length);
 /* Reads a word, or returns false. */
 HIDDEN bool dwcheck_unwind_read(uint64_t address, uint64_t *word);
 
+/* How the words of a process are read: of this one, or of another. */
+struct word_reader { bool (*read)(void *data, uint64_t address, uint64_t *word); void *data; };
+HIDDEN extern const struct word_reader dwcheck_unwind_own_memory;
+
 /* ---- modules.c: the sections of an address ---- */
 
 /* The module of an address, or the registered table that has it. Returns whether there is one with rows. */
@@ -65,8 +69,10 @@ struct frame {
     uint64_t signal_context; /* where the kernel has saved registers, for the last handler that the walk has left; or 0 */
 };
 
-/* Where a register of a frame is: in memory, or nowhere and has the frame's value. */
-struct place { uint64_t address; bool is_saved; };
+/* Where a register of a frame is: nowhere, and then it has the frame's value at most; in memory, at an address; or in another
+   process where it was when that stopped, in the register of that number. */
+enum place_kind { PLACE_NONE, PLACE_MEMORY, PLACE_REGISTER };
+struct place { uint64_t at; enum place_kind kind; };
 
 /* What a cursor of libunwind's is here. */
 struct cursor {
@@ -91,7 +97,7 @@ HIDDEN int dwcheck_unwind_addresses(void **addresses, int size, const dwcheck_re
 
 HIDDEN int dwcheck_unwind_by_cursor(struct cache *cache, struct frame *frame, struct memory *memory, uint64_t key,
                                     struct place *places);
-HIDDEN int dwcheck_unwind_guess(struct frame *frame, struct place *places);
+HIDDEN int dwcheck_unwind_guess(struct frame *frame, struct place *places, const struct word_reader *memory);
 /* Leaves a signal handler: from the code to which it returns to what the signal has interrupted, by what the kernel has
    saved. Returns false if the frame's code is another. `has_row` says that a row covers it, so it can be read. */
 HIDDEN bool dwcheck_unwind_leave_handler(struct frame *frame, struct memory *memory, struct place *places, bool has_row);
@@ -104,14 +110,43 @@ HIDDEN void dwcheck_unwind_frame_of(struct frame *frame, const ucontext_t *conte
 HIDDEN uint64_t *dwcheck_unwind_in_context(ucontext_t *context, int number);
 /* The places of the registers of a cursor's frame. Returns whether they could be found. */
 HIDDEN bool dwcheck_unwind_places(const struct cursor *cursor, struct place places[REGISTERS]);
+/* Writes a place as unw_get_save_loc does. */
+HIDDEN void dwcheck_unwind_put_place(struct place place, unw_save_loc_t *location);
 
-/* ---- names.c, procedures.c, registered.c: what is known of an address ---- */
+/* ---- symbols.c, names.c, handlers.c, procedures.c, registered.c: what is known of an address ---- */
 
+/* Writes the name of the function that is nearest to an address as linked, at or before it, by the symbol tables of an ELF
+   file. Returns what unw_get_proc_name does. */
+HIDDEN int dwcheck_unwind_symbol(const uint8_t *file, size_t length, uint64_t address, char *name, size_t size,
+                                 unw_word_t *offset);
+/* Copies as much of a name as fits, and says so if that isn't all. */
+HIDDEN int dwcheck_unwind_put_name(const char *from, size_t most, char *name, size_t size);
+/* Where an FDE and its CIE are in their process: what is added to the address of a byte here. And the memory there. */
+struct in_process { uint64_t fde, cie; const struct word_reader *memory; };
+/* Writes what an FDE of a section and its CIE say of exceptions. */
+HIDDEN void dwcheck_unwind_handlers(const dwcheck_module *module, uint64_t offset, const dwcheck_record *fde,
+                                    const struct in_process *in, unw_proc_info_t *info);
 HIDDEN int dwcheck_unwind_name(uint64_t address, char *name, size_t size, unw_word_t *offset);
 HIDDEN int dwcheck_unwind_file(uint64_t address, char *name, size_t size, unw_word_t *offset);
 HIDDEN int dwcheck_unwind_procedure(uint64_t address, unw_proc_info_t *info);
 HIDDEN const unw_dyn_info_t *dwcheck_unwind_registered(uint64_t address);
 HIDDEN bool dwcheck_unwind_registered_table(uint64_t address, struct dwcheck_dl_module *module);
+
+/* ---- calls.c: rows as they are passed on, and address spaces ---- */
+
+/* A row, as unw_reg_states_iterate passes it on: one of its addresses, by which it is found again. */
+struct row_state { uint64_t mark, address; };
+#define ROW_MARK UINT64_C(0x776f722d6b636564)
+
+struct kept_rows;
+/* The accessors of a process, and for another process the rows that steps keep (remote/kept.c). The local address space is
+   known by its address alone. */
+struct unw_addr_space {
+    unw_accessors_t accessors;
+    unw_caching_policy_t policy;
+    uint32_t generation; /* how often the rows were flushed */
+    struct kept_rows *kept;
+};
 
 /* ---- context.S ---- */
 

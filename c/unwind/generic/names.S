@@ -1,5 +1,5 @@
 /* libunwind-x86_64.so.8: the names that programs use which haven't said UNW_LOCAL_ONLY. Each goes on to the call of the
-   local name in libunwind.so.8, since a local stack is all that can be walked here. */
+   local name in libunwind.so.8, which takes cursors and address spaces of other processes too. */
 #define HAND_ON(name) .globl _Ux86_64_##name; .type _Ux86_64_##name, @function; .p2align 4; \
     _Ux86_64_##name: .cfi_startproc; jmp *_ULx86_64_##name@GOTPCREL(%rip); .cfi_endproc; \
     .size _Ux86_64_##name, . - _Ux86_64_##name
@@ -7,6 +7,7 @@
 HAND_ON(apply_reg_state)
 HAND_ON(create_addr_space)
 HAND_ON(destroy_addr_space)
+HAND_ON(dwarf_find_debug_frame)
 HAND_ON(dwarf_find_unwind_table)
 HAND_ON(dwarf_search_unwind_table)
 HAND_ON(get_elf_filename)
