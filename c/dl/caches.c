@@ -104,7 +104,7 @@ int dwcheck_dl_confirm(struct dwcheck_dl_cache *cache, uint64_t *confirmed, uint
     struct dwcheck_dl_module *module = &cache->modules[slot];
     if (!dwcheck_dl_is_same(module, &object)) {
         *confirmed &= ~bit(slot);
-        if (module->object.end != 0) dwcheck_rows_forget(&cache->rows, (uint32_t)slot);
+        if (module->object.end != 0) dwcheck_dl_rows_forget(&cache->rows, (uint32_t)slot);
         dwcheck_dl_describe(&object, module);
     }
     *confirmed |= bit(slot);
@@ -124,7 +124,7 @@ const struct dwcheck_dl_module *dwcheck_dl_module_of(struct dwcheck_dl_cache *ca
     return slot < 0 ? NULL : &cache->modules[slot];
 }
 
-/* A call of dwcheck_rows_fill. */
+/* A call of dwcheck_dl_rows_fill. */
 struct fill {
     struct dwcheck_dl_cache *cache;
     uint64_t address;
@@ -137,7 +137,7 @@ static void fill(void *data) {
     dwcheck_fault fault;
     const dwcheck_module module = dwcheck_dl_section_of(&fill->cache->modules[fill->slot]);
     const dwcheck_header header = dwcheck_dl_header_of(&fill->cache->modules[fill->slot]);
-    fill->status = dwcheck_rows_fill(&fill->cache->rows, (uint32_t)fill->slot, &module, &header, fill->address, &fault);
+    fill->status = dwcheck_dl_rows_fill(&fill->cache->rows, (uint32_t)fill->slot, &module, &header, fill->address, &fault);
 }
 
 uint32_t dwcheck_dl_fill(struct dwcheck_dl_cache *cache, int slot, uint64_t address, struct dwcheck_dl_room room) {

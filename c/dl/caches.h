@@ -5,6 +5,7 @@
 
 #include "find.h"
 #include "room.h"
+#include "rows.h"
 
 enum { DWCHECK_DL_SLOTS = 64, DWCHECK_DL_CHUNK = 64, DWCHECK_DL_FRAMES = 6 };
 
@@ -16,10 +17,10 @@ struct dwcheck_dl_cache {
     uint8_t hints[DWCHECK_DL_SLOTS]; /* the slot that the module of an address may have */
     union { /* what the walk has found last */
         uint64_t addresses[DWCHECK_DL_CHUNK];
-        dwcheck_register_frame frames[DWCHECK_DL_FRAMES];
+        dwcheck_dl_frame frames[DWCHECK_DL_FRAMES];
     } found;
     struct dwcheck_dl_module modules[DWCHECK_DL_SLOTS];
-    dwcheck_rows rows;
+    dwcheck_dl_rows rows;
 } __attribute__((aligned(4096)));
 
 /* Claims a cache for a walk: preferably the one that the thread had last. Returns NULL if walks have all of them. It

@@ -5,6 +5,7 @@
 #include "files.h"
 #include "list.h"
 
+#include <fcntl.h>
 #include <limits.h>
 #include <stdatomic.h>
 #include <sys/syscall.h>
@@ -17,7 +18,7 @@ static const char *name_of_program(void) {
     enum { UNKNOWN, ASKING, KNOWN };
     int expected = UNKNOWN;
     if (atomic_compare_exchange_strong(&state, &expected, ASKING)) {
-        const long length = syscall(SYS_readlink, DWCHECK_DL_PROGRAM, name, PATH_MAX);
+        const long length = syscall(SYS_readlinkat, AT_FDCWD, DWCHECK_DL_PROGRAM, name, PATH_MAX);
         if (length > 0) atomic_store(&state, KNOWN);
     }
     return atomic_load(&state) == KNOWN ? name : DWCHECK_DL_PROGRAM;

@@ -42,10 +42,17 @@ DWCHECK_DL_HIDDEN void dwcheck_dl_describe(const struct dwcheck_dl_object *objec
 /* Whether an object, which has just been found, is the module that was described earlier. */
 DWCHECK_DL_HIDDEN bool dwcheck_dl_is_same(const struct dwcheck_dl_module *module, const struct dwcheck_dl_object *object);
 
+/* What the .eh_frame sections of this process are. */
+#if defined(__aarch64__)
+enum { DWCHECK_DL_KIND = DWCHECK_EH_FRAME_AARCH64 };
+#else
+enum { DWCHECK_DL_KIND = DWCHECK_EH_FRAME };
+#endif
+
 /* The module's section and its header, for the calls of dwcheck.h. */
 static inline dwcheck_module dwcheck_dl_section_of(const struct dwcheck_dl_module *module) {
     return (dwcheck_module){.frame = module->frame, .frame_length = module->frame_length, .load_address = module->load_address,
-                            .order = DWCHECK_LITTLE, .address_size = sizeof(void *), .kind = DWCHECK_EH_FRAME,
+                            .order = DWCHECK_LITTLE, .address_size = sizeof(void *), .kind = DWCHECK_DL_KIND,
                             .section_address = module->frame_address, .room = SIZE_MAX};
 }
 

@@ -5,9 +5,11 @@
 #include "memory.h"
 #include "dwcheck-dl.h"
 #include "list.h"
+#include "processor.h"
 
 #include <errno.h>
 #include <pthread.h>
+#include <string.h>
 #include <sys/syscall.h>
 #include <sys/uio.h>
 #include <unistd.h>
@@ -16,15 +18,10 @@ enum { PAGE = 4096, SAVED = 1024, WORD = 8, MORE_PAGES = 2, NEAR_PAGES = 16, MOS
 
 /* ---- pages */
 
-/* This code is a question to valgrind, and otherwise does nothing. */
 bool dwcheck_dl_is_in_valgrind(void) {
-    volatile uint64_t question[6] = {0x1001};
-    uint64_t answer = 0;
-    __asm__ volatile("rolq $3, %%rdi\n\trolq $13, %%rdi\n\trolq $61, %%rdi\n\trolq $51, %%rdi\n\txchgq %%rbx, %%rbx"
-                     : "+d"(answer)
-                     : "a"(question)
-                     : "cc", "memory");
-    return answer != 0;
+    enum { RUNNING_ON_VALGRIND = 0x1001 };
+    volatile uint64_t question[6] = {RUNNING_ON_VALGRIND};
+    return dwcheck_dl_ask_valgrind(question) != 0;
 }
 
 enum answer { READABLE, UNREADABLE, REFUSED };
@@ -58,6 +55,14 @@ static enum answer ask(uint64_t page) {
 bool dwcheck_dl_is_readable(uint64_t address) { return ask(address / PAGE) == READABLE; }
 
 bool dwcheck_dl_is_unreadable(uint64_t address) { return ask(address / PAGE) == UNREADABLE; }
+
+/* Where it begins a page, the call before it may have been the last instruction of the module. */
+bool dwcheck_dl_is_code(uint64_t address, const void *code, size_t length) {
+    const uint64_t last = address + length - 1;
+    const bool is_first = address % PAGE == 0;
+    if ((is_first || last / PAGE != address / PAGE) && !dwcheck_dl_is_readable(last)) return false;
+    return memcmp((const void *)(uintptr_t)address, code, length) == 0;
+}
 
 /* How many pages from `page` on can be read, at most `most`. */
 static uint64_t count_readable(uint64_t page, uint64_t most) {

@@ -9,6 +9,9 @@
 DWCHECK_DL_HIDDEN bool dwcheck_dl_is_readable(uint64_t address);
 DWCHECK_DL_HIDDEN bool dwcheck_dl_is_unreadable(uint64_t address);
 
+/* Whether these bytes of code are at an address, the first of which may be read. */
+DWCHECK_DL_HIDDEN bool dwcheck_dl_is_code(uint64_t address, const void *code, size_t length);
+
 /* The memory of a frame whose stack pointer is `pointer`, with `below` bytes below it if they can be read: where the
    calling thread's own stack is known (dwcheck_dl_thread), up to its end, and else as many pages as are asked for.
    After an overflow the stack pointer is in pages that can't be read, and the block begins above them. */

@@ -84,7 +84,7 @@ struct pieces {
 static uint32_t make_pieces(struct pieces *pieces, const struct code *code, uint64_t address, struct dwcheck_dl_bytes frame,
                             struct dwcheck_dl_bytes debug_frame) {
     dwcheck_module module = {.frame = frame.first, .frame_length = frame.length, .section_address = address,
-                             .order = DWCHECK_LITTLE, .address_size = sizeof(void *), .kind = DWCHECK_EH_FRAME};
+                             .order = DWCHECK_LITTLE, .address_size = sizeof(void *), .kind = DWCHECK_DL_KIND};
     dwcheck_module other = module;
     other.kind = DWCHECK_DEBUG_FRAME;
     other.frame = debug_frame.first, other.frame_length = debug_frame.length;

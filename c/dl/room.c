@@ -2,6 +2,7 @@
 #define _GNU_SOURCE
 #include "room.h"
 #include "memory.h"
+#include "processor.h"
 
 #include <errno.h>
 #include <signal.h>
@@ -9,7 +10,7 @@
 #include <sys/syscall.h>
 #include <unistd.h>
 
-enum { NEEDED = 52 << 10, SIZE = 96 << 10, STACKS = 6, FOR_ALL = 2 };
+enum { SIZE = 96 << 10, STACKS = 6, FOR_ALL = 2 };
 
 /* What a look-up doesn't take is for handlers that interrupt it. */
 struct stack {
@@ -18,13 +19,6 @@ struct stack {
 
 static struct stack stacks[STACKS];
 static atomic_bool is_taken[STACKS];
-
-/* Calls f(data) with this stack pointer, and finds the way back by rbp. */
-__asm__(".pushsection .text\n.hidden dwcheck_dl_call_on\n.globl dwcheck_dl_call_on\n.type dwcheck_dl_call_on, @function\n"
-        "dwcheck_dl_call_on:\n.cfi_startproc\nendbr64\npush %rbp\n.cfi_def_cfa_offset 16\n.cfi_offset %rbp, -16\n"
-        "mov %rsp, %rbp\n.cfi_def_cfa_register %rbp\nmov %rdx, %rsp\ncall *%rsi\nmov %rbp, %rsp\npop %rbp\n"
-        ".cfi_def_cfa %rsp, 8\nret\n.cfi_endproc\n.size dwcheck_dl_call_on, . - dwcheck_dl_call_on\n.popsection");
-DWCHECK_DL_HIDDEN void dwcheck_dl_call_on(void *data, void (*f)(void *data), void *top);
 
 struct dwcheck_dl_room dwcheck_dl_room(void) {
     const uint64_t here = (uintptr_t)__builtin_frame_address(0);
@@ -64,7 +58,7 @@ static void call_on(int stack, bool is_alternate, void (*f)(void *data), void *d
 }
 
 bool dwcheck_dl_call(struct dwcheck_dl_room room, void (*f)(void *data), void *data) {
-    if (room.bytes >= NEEDED || (room.bytes == 0 && dwcheck_dl_is_in_valgrind())) return f(data), true;
+    if (room.bytes >= DWCHECK_DL_NEEDED || (room.bytes == 0 && dwcheck_dl_is_in_valgrind())) return f(data), true;
     const int stack = claim(room.is_alternate);
     if (stack < 0) return room.bytes == 0 ? f(data), true : false;
     call_on(stack, room.is_alternate, f, data);

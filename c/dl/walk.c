@@ -17,7 +17,7 @@ static void begin(struct dwcheck_dl_walk *walk, uint32_t options) {
     walk->is_over = false;
 }
 
-void dwcheck_dl_start(struct dwcheck_dl_walk *walk, const dwcheck_register_place *place, uint32_t options) {
+void dwcheck_dl_start(struct dwcheck_dl_walk *walk, const dwcheck_dl_place *place, uint32_t options) {
     begin(walk, options);
     walk->place = *place;
     walk->stack = dwcheck_dl_own_stack(place->stack_pointer);
@@ -60,7 +60,7 @@ static void end(struct dwcheck_dl_walk *walk, uint32_t stop) {
 }
 
 /* Does what is needed after kept rows have led to `count` frames. Returns how many frames there are now. */
-static size_t go_on(struct dwcheck_dl_walk *walk, dwcheck_register_frame *frames, size_t count, uint32_t stop) {
+static size_t go_on(struct dwcheck_dl_walk *walk, dwcheck_dl_frame *frames, size_t count, uint32_t stop) {
     uint32_t status;
     switch (stop) {
     case DWCHECK_STOP_LIMIT:
@@ -76,7 +76,7 @@ static size_t go_on(struct dwcheck_dl_walk *walk, dwcheck_register_frame *frames
         dwcheck_dl_step(walk, &frames[count]);
         return count + 1;
     case DWCHECK_STOP_RETURN_UNREADABLE: /* the memory may go on after the block */
-        if (!dwcheck_dl_extend(&walk->stack, frames[count - 1].cfa)) break;
+        if (!dwcheck_dl_extend(&walk->stack, dwcheck_dl_end_of_saved(&walk->cache->rows, walk->confirmed, &frames[count - 1]))) break;
         walk->place = frames[count - 1].place;
         return count - 1;
     }
@@ -84,15 +84,15 @@ static size_t go_on(struct dwcheck_dl_walk *walk, dwcheck_register_frame *frames
     return count;
 }
 
-size_t dwcheck_dl_next(struct dwcheck_dl_walk *walk, dwcheck_register_frame *frames, size_t room) {
+size_t dwcheck_dl_next(struct dwcheck_dl_walk *walk, dwcheck_dl_frame *frames, size_t room) {
     size_t count = 0;
     walk->mark = DWCHECK_DL_BY_ROW;
     while (count < room && !walk->is_over && walk->mark == DWCHECK_DL_BY_ROW) {
         size_t more = 0;
         uint32_t stop = DWCHECK_STOP_OTHER;
         if (walk->cache != NULL)
-            dwcheck_walk_frames(&walk->cache->rows, walk->confirmed, &walk->place, &walk->stack, 1, frames + count,
-                                room - count, &more, &stop);
+            dwcheck_dl_rows_walk_frames(&walk->cache->rows, walk->confirmed, &walk->place, &walk->stack, frames + count,
+                                        room - count, &more, &stop);
         count = go_on(walk, frames, count + more, stop);
     }
     return count;
@@ -100,7 +100,7 @@ size_t dwcheck_dl_next(struct dwcheck_dl_walk *walk, dwcheck_register_frame *fra
 
 /* Goes on to the frame that comes after `count` others, whose addresses are known already, to have its registers. */
 static void catch_up(struct dwcheck_dl_walk *walk, size_t count) {
-    dwcheck_register_frame *frames = walk->cache->found.frames;
+    dwcheck_dl_frame *frames = walk->cache->found.frames;
     while (count > 0 && !walk->is_over) {
         const size_t wanted = count < DWCHECK_DL_FRAMES ? count : DWCHECK_DL_FRAMES;
         count -= dwcheck_dl_next(walk, frames, wanted);
@@ -114,7 +114,7 @@ static size_t addresses_from(struct dwcheck_dl_walk *walk, dwcheck_place *place,
     size_t count = 0, more;
     do {
         const size_t wanted = room - count < DWCHECK_DL_CHUNK ? room - count : DWCHECK_DL_CHUNK;
-        dwcheck_walk(&walk->cache->rows, walk->confirmed, place, &walk->stack, 1, found, wanted, &more, stop);
+        dwcheck_dl_rows_walk(&walk->cache->rows, walk->confirmed, place, &walk->stack, found, wanted, &more, stop);
         memcpy(addresses + count, found, more * sizeof *found);
         count += more;
     } while ((*stop == DWCHECK_STOP_LIMIT && count < room)
@@ -125,7 +125,7 @@ static size_t addresses_from(struct dwcheck_dl_walk *walk, dwcheck_place *place,
 size_t dwcheck_dl_pass(struct dwcheck_dl_walk *walk, void **addresses, size_t room) {
     if (walk->cache == NULL || walk->mark != DWCHECK_DL_BY_ROW || !dwcheck_dl_is_own(&walk->stack)) return 0;
     dwcheck_place place = {.address = walk->place.address, .key = walk->place.key, .stack_pointer = walk->place.stack_pointer,
-                           .frame_pointer = walk->place.rbp};
+                           .frame_pointer = *dwcheck_dl_frame_pointer(&walk->place)};
     uint32_t stop;
     size_t count = addresses_from(walk, &place, addresses, room, &stop);
     if (stop == DWCHECK_STOP_LIMIT || stop == DWCHECK_STOP_RETURN_UNDEFINED) {

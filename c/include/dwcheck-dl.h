@@ -1,18 +1,20 @@
 /* dwcheck-dl: the stack of this process, at once, at any moment. A walk needs nothing before it: not before main, in
    a signal handler, after dlopen, or in a thread that was just made. It finds the modules that the loader has mapped
    (the program, its libraries, those of dlmopen, the vDSO), looks up rows in their .eh_frame sections where they lie,
-   and keeps the rows for later walks. It is plain C over the calls of dwcheck.h, for x86-64 Linux with glibc 2.35 or
-   later. It is tested and not proved. Compiled with an older glibc or with musl, it is tested less, and walks find the
-   modules that the last dwcheck_dl_thread, dwcheck_dl_prepare or dwcheck_dl_update has listed.
+   and keeps the rows for later walks. It is plain C over the calls of dwcheck.h, for Linux on x86-64 and aarch64 with
+   glibc 2.35 or later. It is tested and not proved. Compiled with an older glibc or with musl, it is tested less, and
+   walks find the modules that the last dwcheck_dl_thread, dwcheck_dl_prepare or dwcheck_dl_update has listed.
 
    - Walks take no lock and allocate nothing; any thread may walk at any time, also in a signal handler that has
      interrupted another walk, and in the child of a fork. What they call is async-signal-safe: _dl_find_object of
      glibc, whose manual says so; memcpy, memcmp, memset and strlen, which POSIX lists; getauxval, which reads memory
      that doesn't change; and the system calls rt_sigprocmask and sigaltstack, under valgrind process_vm_readv, and in a
      static program without .eh_frame_hdr openat, pread64 and close.
-   - Rows are kept in 19 caches of 36 KB, of which only those that were used take memory. A walk has one for itself,
-     and if walks have all of them, it looks up each frame. siglongjmp may leave a walk, and then its cache stays out
-     of use; so does one in a child of a fork that another thread had then.
+   - On aarch64, walks by kept rows are plain C too; rows are found by proved look-ups. Signatures of return addresses
+     are taken off as the processor says, by its instruction xpaclri.
+   - Rows are kept in 19 caches of 36 KB, on aarch64 of 52 KB, of which only those that were used take memory. A walk has
+     one for itself, and if walks have all of them, it looks up each frame. siglongjmp may leave a walk, and then its
+     cache stays out of use; so does one in a child of a fork that another thread had then.
    - A module of which a frame is on the stack mustn't be unloaded meanwhile (dlclose); then its code would be gone,
      too. Other modules may come and go. A module is known by its place and its build id; without one, by its name,
      its program headers and the first KB of .eh_frame.
@@ -45,12 +47,15 @@ int dwcheck_dl_backtrace(void **addresses, int size);
    its handler. The first address is that of the interrupted instruction. If nothing can be executed there,
    since a null pointer (or an address below 4096) or another wrong one was called, the second address is in
    the function that made the call. The kernel says in the context that fetching the instruction has
-   faulted, so there mustn't be a row for it; and the word at the stack pointer, which the call has pushed,
-   must follow a call, and be an address of code with rows, unless a null pointer was called. */
+   faulted, so there mustn't be a row for it; and what the call has left as its return address, at the stack
+   pointer or on aarch64 in x30, must follow a call, and be an address of code with rows, unless a null
+   pointer was called. On aarch64, so does the caller follow where procedure linkage tables and the vDSO
+   were interrupted, which have no rows. */
 int dwcheck_dl_backtrace_from(const void *context, void **addresses, int size);
 
 /* How a frame was found: by a row, or from what the kernel has saved for a signal; as the one that has called what is
-   no function; by the frame pointer. The last two are guesses, and the frames after one of them rest on it. */
+   no function, or code without rows that has no frame (as above); by the frame pointer. The last two are guesses, and the
+   frames after one of them rest on it. */
 enum { DWCHECK_DL_BY_ROW = 0, DWCHECK_DL_BY_CALL = 1, DWCHECK_DL_BY_FRAME_POINTER = 2 };
 
 /* Options: go on where no row covers a frame, by the chain of frame pointers, as in code of JIT compilers and Go. */
@@ -75,10 +80,20 @@ typedef struct dwcheck_dl_request {
 /* Walks as the calls above do, as `request` asks. */
 int dwcheck_dl_walk(dwcheck_dl_request *request, void **addresses, int size);
 
-/* The same, and writes each frame with its address, the contents of rsp and of the callee-saved registers, and its
-   CFA, which is 0 if it isn't known. In a frame that was found by the frame pointer, the other callee-saved registers
-   have the contents of the frame before. */
-int dwcheck_dl_frames(dwcheck_dl_request *request, dwcheck_register_frame *frames, int size);
+/* Where a walk is at a frame: on x86-64, as dwcheck.h says. On aarch64, with the contents of sp and of x19 to x30. x30 is
+   0 in a frame that has made a call: what the call has put there isn't the frame's own. */
+#if defined(__aarch64__)
+typedef struct dwcheck_dl_place { uint64_t address, key, stack_pointer, x19_to_x30[12]; } dwcheck_dl_place;
+typedef struct dwcheck_dl_frame { dwcheck_dl_place place; uint64_t cfa; } dwcheck_dl_frame;
+#else
+typedef dwcheck_register_place dwcheck_dl_place;
+typedef dwcheck_register_frame dwcheck_dl_frame;
+#endif
+
+/* The same, and writes each frame with its address, the contents of the stack pointer and of the callee-saved registers,
+   and its CFA, which is 0 if it isn't known. In a frame that was found by the frame pointer, the other callee-saved
+   registers have the contents of the frame before. */
+int dwcheck_dl_frames(dwcheck_dl_request *request, dwcheck_dl_frame *frames, int size);
 
 /* The module that has an address: its first address, the one after its last, what is added to an address as linked, and
    the name of its file, which is valid until it is unloaded ("" for registered code). Signal handlers may make the

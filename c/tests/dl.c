@@ -2,6 +2,7 @@
    failure, and at the end a line with counts. */
 #define _GNU_SOURCE
 #include "dl.h"
+#include "dl_processor.h"
 
 #include <alloca.h>
 #include <limits.h>
@@ -9,7 +10,6 @@
 #include <setjmp.h>
 #include <signal.h>
 #include <sys/mman.h>
-#include <ucontext.h>
 
 static int compare_in_libc(const void *a, const void *b) {
     compare();
@@ -33,7 +33,7 @@ static void on_signal(int signal, siginfo_t *info, void *context) {
     (void)signal, (void)info;
     void *ours[FRAMES], *theirs[FRAMES];
     int our_count = dwcheck_dl_backtrace_from(context, ours, FRAMES), their_count = backtrace(theirs, FRAMES), i = 0;
-    uint64_t interrupted = (uint64_t)((ucontext_t *)context)->uc_mcontext.gregs[REG_RIP];
+    const uint64_t interrupted = (uint64_t)PC(context);
     while (i < their_count && (uint64_t)(uintptr_t)theirs[i] != interrupted) i++;
     if (their_count == FRAMES) our_count -= i; /* there are more frames than fit */
     IS(i < their_count, 1);
@@ -44,20 +44,9 @@ static void on_signal(int signal, siginfo_t *info, void *context) {
 
 static void raise_signal(void) { raise(SIGUSR1); }
 
-/* A function that a signal interrupts at its first instruction, where the address before it belongs to
-   another function. */
-__asm__(".pushsection .text\n.type traps, @function\n.globl traps\ntraps:\n.cfi_startproc\nud2\nret\n.cfi_endproc\n.size traps, . - traps\n.popsection");
-void traps(void);
-
-/* A function that a signal interrupts where the caller's rbp, by its row, is below the stack pointer. */
-__asm__(".pushsection .text\n.type pops, @function\n.globl pops\npops:\n.cfi_startproc\npush %rbp\n.cfi_def_cfa_offset 16\n"
-        ".cfi_offset %rbp, -16\nmov %rsp, %rbp\n.cfi_def_cfa_register %rbp\npop %rbp\n.cfi_def_cfa %rsp, 8\nud2\nret\n"
-        ".cfi_endproc\n.size pops, . - pops\n.popsection");
-void pops(void);
-
 static void on_trap(int signal, siginfo_t *info, void *context) {
     on_signal(signal, info, context);
-    ((ucontext_t *)context)->uc_mcontext.gregs[REG_RIP] += 2;
+    PC(context) += TRAP;
 }
 
 static void test_signals(void) {
@@ -138,12 +127,6 @@ static void test_overflow(void) {
 
 /* ---- other stacks */
 
-/* Calls `f` on another stack, and finds the way back by rbp. */
-__asm__(".pushsection .text\n.type on_stack, @function\n.globl on_stack\non_stack:\n.cfi_startproc\npush %rbp\n.cfi_def_cfa_offset 16\n"
-        ".cfi_offset %rbp, -16\nmov %rsp, %rbp\n.cfi_def_cfa_register %rbp\nmov %rsi, %rsp\ncall *%rdi\nmov %rbp, %rsp\npop %rbp\n"
-        ".cfi_def_cfa %rsp, 8\nret\n.cfi_endproc\n.size on_stack, . - on_stack\n.popsection");
-void on_stack(void (*f)(void), void *top);
-
 static void compare_deep(void) { deep(DEPTH, compare); }
 
 enum { BIG = 12 << 20 };
@@ -191,7 +174,7 @@ static void call_missing(void) {
     if (sigsetjmp(after_wild_call, 1) == 0) missing();
 }
 
-/* Returns to what is no function, so that the word at the stack pointer is no return address. */
+/* Returns to what is no function, so that the word where a call would have its return address is another one. */
 static void on_wild_return(int signal, siginfo_t *info, void *context) {
     (void)signal, (void)info;
     void *ours[FRAMES];
@@ -203,8 +186,7 @@ static void on_wild_return(int signal, siginfo_t *info, void *context) {
 static volatile uintptr_t next_word;
 
 static void return_to_missing(void) {
-    if (sigsetjmp(after_wild_call, 1) == 0)
-        __asm__ volatile("push %1\n\tpush %0\n\tret" : : "r"(missing), "r"(next_word) : "memory");
+    if (sigsetjmp(after_wild_call, 1) == 0) RETURN_TO(missing, next_word);
 }
 
 static void test_wild_calls(void) {

@@ -34,7 +34,7 @@ __attribute__((constructor(101))) static void find_backtrace(void) {
 
 /* The frames with registers are those of the addresses, and the CFA of each is the stack pointer of the next one. */
 __attribute__((noinline)) static void compare_frames(void **addresses, int count) {
-    dwcheck_register_frame frames[FRAMES];
+    dwcheck_dl_frame frames[FRAMES];
     dwcheck_dl_request request = {.context = NULL};
     int frame_count = dwcheck_dl_frames(&request, frames, FRAMES), same = 0, linked = 0;
     IS(frame_count, count + 1); /* this function's is the first */

@@ -7,6 +7,7 @@
    of CALLED. */
 #define _GNU_SOURCE
 #include "dl.h"
+#include "dl_processor.h"
 
 #include <link.h>
 #include <malloc.h>
@@ -14,7 +15,10 @@
 #include <signal.h>
 #include <sys/mman.h>
 
-enum { THREADS = 8, FIRST = 100, ROUNDS = 1000 };
+#ifndef ROUNDS
+#define ROUNDS 1000
+#endif
+enum { THREADS = 8, FIRST = 100 };
 
 typedef void call_back(void (*f)(void));
 
@@ -68,23 +72,18 @@ static void test_namespace(const char *name) {
 
 /* ---- registered code */
 
-/* Code that no module has: push %rbp; mov %rsp, %rbp; call *%rdi; pop %rbp; ret. */
-static const uint8_t code[] = {0x55, 0x48, 0x89, 0xe5, 0xff, 0xd7, 0x5d, 0xc3};
-
-/* Its section: a CIE, an FDE whose addresses are absolute, and a record of length 0. */
+/* The section of code that no module has: a CIE, an FDE whose addresses are absolute, and a record of length 0. */
 struct section {
     uint32_t cie_length, cie_id;
-    uint8_t cie[12]; /* version 1, no augmentation, factors 1 and -8, register 16; the CFA is rsp + 8, the return address below it */
+    uint8_t cie[12];
     uint32_t fde_length, to_cie;
     uint64_t start, length;
-    uint8_t fde[12]; /* after push: the CFA is rsp + 16, rbp below; after mov it is rbp + 16; before ret rsp + 8 */
+    uint8_t fde[12];
     uint32_t end;
 } __attribute__((packed));
 
 static const struct section rows = {
-    .cie_length = 16, .cie = {1, 0, 1, 0x78, 16, 0x0c, 7, 8, 0x90, 1, 0, 0},
-    .fde_length = 32, .to_cie = 24, .length = sizeof code,
-    .fde = {0x41, 0x0e, 16, 0x86, 2, 0x43, 0x0d, 6, 0x43, 0x0c, 7, 8}};
+    .cie_length = 16, .cie = {CODE_CIE}, .fde_length = 32, .to_cie = 24, .length = sizeof code, .fde = {CODE_FDE}};
 
 void __register_frame(void *);
 void __deregister_frame(void *);
@@ -123,6 +122,7 @@ static void test_registered(void) {
     enum { PAGE = 4096 };
     uint8_t *page = mmap(NULL, PAGE, PROT_READ | PROT_WRITE | PROT_EXEC, MAP_PRIVATE | MAP_ANONYMOUS, -1, 0);
     memcpy(page, code, sizeof code);
+    __builtin___clear_cache((char *)page, (char *)page + sizeof code);
     struct section *section = write_section(page), *other = write_section(page + 64);
     const uint64_t first = (uintptr_t)page, last = first + sizeof code - 1;
     call_back *f;

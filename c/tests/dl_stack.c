@@ -13,7 +13,7 @@
 enum { FILLED = 128 << 10, NEAR = 256, PATTERN = 0x77, FRAMES = 64, DEPTH = 10 };
 
 static void *addresses[FRAMES];
-static dwcheck_register_frame frames[FRAMES];
+static dwcheck_dl_frame frames[FRAMES];
 static ucontext_t context;
 
 static void backtraces(void) { dwcheck_dl_backtrace(addresses, FRAMES); }
