@@ -4,6 +4,7 @@
 #define _GNU_SOURCE
 #include "remote.h"
 
+#include <elf.h>
 #include <inttypes.h>
 #include <stdio.h>
 #include <stdlib.h>
@@ -41,12 +42,16 @@ int main(int count, char **arguments) {
     const dwcheck_reader reader = {read_memory, &pid, DWCHECK_LITTLE, 8};
     dwcheck_process process = DWCHECK_CLOSED;
     struct user_regs_struct registers;
+    struct { uint64_t data, code; } masks = {0, 0}; /* of signatures */
+    struct iovec general = {&registers, sizeof registers}, signatures = {&masks, sizeof masks};
     int status, result = 1;
     if (pid <= 0) return fprintf(stderr, "usage: attach PID\n"), 2;
     add_modules(&process, &reader, pid); /* it runs on meanwhile */
     if (ptrace(PTRACE_SEIZE, pid, 0, 0) != 0) return perror("attach"), 1;
     if (ptrace(PTRACE_INTERRUPT, pid, 0, 0) == 0 && waitpid(pid, &status, 0) == pid && WIFSTOPPED(status)) {
-        if (ptrace(PTRACE_GETREGS, pid, 0, &registers) == 0) print_stack(&process, &reader, &registers), result = 0;
+        ptrace(PTRACE_GETREGSET, pid, NT_ARM_PAC_MASK, &signatures); /* processors without signatures have no such set */
+        if (ptrace(PTRACE_GETREGSET, pid, NT_PRSTATUS, &general) == 0)
+            print_stack(&process, &reader, &registers, masks.code), result = 0;
         /* A signal that came first has stopped it, and is passed on. */
         long signal = status >> 16 == PTRACE_EVENT_STOP ? 0 : WSTOPSIG(status);
         ptrace(PTRACE_DETACH, pid, 0, signal);

@@ -16,6 +16,16 @@ import gdb
 LINE = re.compile(r"frame (\d+) (0x[0-9a-f]{16})(?: cfa (0x[0-9a-f]{16}))?(?: \S+\+0x[0-9a-f]+)?$")
 
 
+def cfa_of_selected():
+    """The canonical frame address of the selected frame, if gdb knows it. For the outermost frame of aarch64
+    it only says that register 30 wasn't saved."""
+    try:
+        cfa = re.search(r"frame at (0x[0-9a-f]+)", gdb.execute("info frame", to_string=True))
+    except gdb.error:
+        return None
+    return int(cfa.group(1), 16) if cfa else None
+
+
 def levels(frame):
     """The address and the canonical frame address of each of gdb's frames from this one on.
     Frames of inlined functions are left out, since they aren't on the stack."""
@@ -23,8 +33,7 @@ def levels(frame):
     while frame is not None:
         if frame.type() != gdb.INLINE_FRAME:
             frame.select()
-            cfa = re.search(r"frame at (0x[0-9a-f]+)", gdb.execute("info frame", to_string=True))
-            found.append((frame.pc(), int(cfa.group(1), 16) if cfa else None))
+            found.append((frame.pc(), cfa_of_selected()))
         frame = frame.older()
     return found
 

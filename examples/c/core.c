@@ -1,4 +1,4 @@
-/* An example program: prints the stack of each thread in a core file of x86-64. Memory that a step asks for
+/* An example program: prints the stack of each thread in a core file of the processor that it runs on. Memory that a step asks for
    comes from the core file, or where that leaves it out, from the file that was mapped there.
    usage: core FILE */
 #define _GNU_SOURCE
@@ -22,7 +22,14 @@ struct core {
     uint64_t mappings, page_size;
     const uint8_t *places; /* three numbers for each mapping */
     const char *names, *names_end; /* a name for each mapping */
+    uint64_t signed_bits; /* of return addresses */
 };
+
+#if defined(__aarch64__)
+enum { MACHINE = EM_AARCH64 };
+#else
+enum { MACHINE = EM_X86_64 };
+#endif
 
 /* A mapping of a file: its addresses, and where they begin in the file, in pages. */
 struct mapping { uint64_t first, end, page; };
@@ -119,16 +126,22 @@ static void add_vdso(struct core *core, const uint8_t *bytes, uint64_t length, v
 
 struct walk { const dwcheck_process *process; const dwcheck_reader *reader; };
 
+/* The mask for code comes after the one for data. */
+static void take_mask(struct core *core, const uint8_t *bytes, uint64_t length, void *with) {
+    enum { CODE = sizeof(uint64_t) };
+    (void)with;
+    if (length >= CODE + sizeof core->signed_bits) memcpy(&core->signed_bits, bytes + CODE, sizeof core->signed_bits);
+}
+
 static void print_thread(struct core *core, const uint8_t *bytes, uint64_t length, void *with) {
     const struct walk *walk = with;
     struct elf_prstatus thread;
     struct user_regs_struct registers;
-    (void)core;
     if (length < sizeof thread) return;
     memcpy(&thread, bytes, sizeof thread);
     memcpy(&registers, &thread.pr_reg, sizeof registers);
     printf("thread %d\n", (int)thread.pr_pid);
-    print_stack(walk->process, walk->reader, &registers);
+    print_stack(walk->process, walk->reader, &registers, core->signed_bits);
 }
 
 int main(int count, char **arguments) {
@@ -142,8 +155,8 @@ int main(int count, char **arguments) {
     bool is_mapped = core.bytes != MAP_FAILED && core.length >= sizeof(Elf64_Ehdr);
     const Elf64_Ehdr *header = is_mapped ? (const void *)core.bytes : NULL;
     bool is_elf = header && memcmp(header->e_ident, ELFMAG, SELFMAG) == 0;
-    if (!is_elf || header->e_type != ET_CORE || header->e_machine != EM_X86_64)
-        return fprintf(stderr, "%s: no core file of x86-64\n", arguments[1]), 1;
+    if (!is_elf || header->e_type != ET_CORE || header->e_machine != MACHINE)
+        return fprintf(stderr, "%s: no core file of this processor\n", arguments[1]), 1;
     core.count = header->e_phnum;
     core.segments = (const void *)bytes_at(&core, header->e_phoff, core.count * sizeof *core.segments);
     if (!core.segments) return fprintf(stderr, "%s: cut short\n", arguments[1]), 1;
@@ -152,6 +165,7 @@ int main(int count, char **arguments) {
     struct adding adding = {&process, &reader};
     each_note(&core, NT_FILE, add_files, &adding);
     each_note(&core, NT_AUXV, add_vdso, &adding);
+    each_note(&core, NT_ARM_PAC_MASK, take_mask, NULL);
     each_note(&core, NT_PRSTATUS, print_thread, &(struct walk){&process, &reader});
     dwcheck_process_close(&process);
     return 0;

@@ -44,11 +44,11 @@ static void write_line(void) {
    only one crash come here. When the handler returns, the program crashes again, and the signal ends
    it. */
 
-static dwcheck_register_frame frames[FRAMES];
+static dwcheck_dl_frame frames[FRAMES];
 
 /* Writes a frame. An address within its instruction is the frame's own address or, where that is a return
    address, the one before. The module's file and the address in the file are what addr2line needs. */
-static void write_frame(size_t number, const dwcheck_register_frame *frame) {
+static void write_frame(size_t number, const dwcheck_dl_frame *frame) {
     const uint64_t inside = frame->place.key - 1;
     dwcheck_dl_loaded module;
     put_text("frame "), put_decimal(number), put_text(" "), put_address(frame->place.address);

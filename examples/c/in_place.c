@@ -41,7 +41,7 @@ static int look_up_in(struct dl_phdr_info *info, size_t size, void *data) {
         uintptr_t first = header + 4 + (uintptr_t)(intptr_t)distance;
         dwcheck_header table = {(const void *)header, info->dlpi_phdr[i].p_memsz, header};
         dwcheck_module module = {.frame = (const void *)first, .frame_length = end_of_segment(info, first) - first,
-                                 .kind = DWCHECK_EH_FRAME, .section_address = first, .order = DWCHECK_LITTLE, .address_size = 8};
+                                 .kind = KIND, .section_address = first, .order = DWCHECK_LITTLE, .address_size = 8};
         l->status = dwcheck_row_in(&module, &table, l->address, &l->row, l->rules, DWCHECK_MAX_RULES, &l->is_signal_frame, &l->fault);
     }
     return 1;
@@ -53,7 +53,7 @@ __attribute__((noinline)) static void print_row(void) {
     uint64_t registers[REGISTERS];
     if (getcontext(&context) != 0) abort();
     copy_registers(&context, registers);
-    l.address = registers[16];
+    l.address = registers[PC];
     dl_iterate_phdr(look_up_in, &l);
     if (l.status != DWCHECK_DONE || l.row.cfa.kind != DWCHECK_RULE_VAL_OFFSET) abort();
     printf("row 0x%" PRIx64 "..0x%" PRIx64 " of 0x%" PRIx64 ": %u registers are saved\n", l.row.start, l.row.end, l.address, l.row.count);

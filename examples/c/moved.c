@@ -42,7 +42,7 @@ __attribute__((noinline)) static void print_stack(void) {
 
 __attribute__((noinline)) static void print_stack(void) {
     enum { MOST = 64 };
-    dwcheck_register_frame frames[MOST];
+    dwcheck_dl_frame frames[MOST];
     dwcheck_dl_request request = {.context = NULL};        /* unw_getcontext, unw_init_local2 */
     int count = dwcheck_dl_frames(&request, frames, MOST); /* unw_step */
     for (int i = 1; i < count; i++) print_frame(frames[i].place.address, frames[i].place.stack_pointer); /* unw_get_reg */

@@ -1,6 +1,7 @@
 /* The modules and the stacks of another process, of which only what is needed is read: no stack and no file
    is copied first. The tables are those that the loader has mapped, .eh_frame. */
 #include "remote.h"
+#include "state.h"
 
 #include <elf.h>
 #include <inttypes.h>
@@ -62,7 +63,7 @@ void add_module(dwcheck_process *process, const dwcheck_reader *reader, uint64_t
     uint8_t *section = length > 0 && length < LONGEST ? malloc(length) : NULL;
     dwcheck_fault fault;
     if (section && read_at(reader, at, section, length)) {
-        dwcheck_module module = {.frame = section, .frame_length = length, .kind = DWCHECK_EH_FRAME,
+        dwcheck_module module = {.frame = section, .frame_length = length, .kind = KIND,
                                  .section_address = at - load, .load_address = load, .first = first,
                                  .last = last, .has_range = 1, .room = SIZE_MAX, .address_size = 8};
         uint32_t status = dwcheck_process_add(process, &module, &id, &fault);
@@ -72,17 +73,30 @@ void add_module(dwcheck_process *process, const dwcheck_reader *reader, uint64_t
     free(section);
 }
 
-void print_stack(const dwcheck_process *process, const dwcheck_reader *reader, const struct user_regs_struct *r) {
-    const uint64_t contents[] = {r->rax, r->rdx, r->rcx, r->rbx, r->rsi, r->rdi, r->rbp, r->rsp, r->r8,
-                                 r->r9,  r->r10, r->r11, r->r12, r->r13, r->r14, r->r15, r->rip};
-    static const uint8_t known[] = {0xff, 0xff, 1};
-    static const uint16_t kept[] = {3, 6, 12, 13, 14, 15};
-    const dwcheck_state state = {.contents = contents, .contents_length = 17, .known = known, .known_length = 3,
-                                 .kept = kept, .kept_length = 6, .stack_pointer = 7, .has_stack_pointer = 1};
+/* Copies registers in the order of DWARF's numbers. */
+static void copy_general(const struct user_regs_struct *r, uint64_t registers[REGISTERS]) {
+#if defined(__aarch64__)
+    memcpy(registers, r->regs, sizeof r->regs);
+    registers[PC - 1] = r->sp;
+    registers[PC] = r->pc;
+#else
+    const uint64_t all[REGISTERS] = {r->rax, r->rdx, r->rcx, r->rbx, r->rsi, r->rdi, r->rbp, r->rsp, r->r8,
+                                     r->r9,  r->r10, r->r11, r->r12, r->r13, r->r14, r->r15, r->rip};
+    memcpy(registers, all, sizeof all);
+#endif
+}
+
+void print_stack(const dwcheck_process *process, const dwcheck_reader *reader, const struct user_regs_struct *r,
+                 uint64_t signed_bits) {
+    uint64_t registers[REGISTERS];
+    copy_general(r, registers);
+    dwcheck_state state = state_of(registers, NULL);
+    state.blocks_length = 0;
+    state.signed_bits = signed_bits;
     dwcheck_cursor cursor;
     dwcheck_frame frame;
     dwcheck_fault fault;
-    if (dwcheck_cursor_init(&cursor, r->rip, &state, 1, &fault) != DWCHECK_DONE) return;
+    if (dwcheck_cursor_init(&cursor, registers[PC], &state, 1, &fault) != DWCHECK_DONE) return;
     for (int i = 0; i < FRAMES && dwcheck_cursor_step_with(process, &cursor, &state, reader, &frame) == DWCHECK_DONE; i++)
         if (frame.cfa.kind == DWCHECK_ANSWER_VALUE)
             printf("frame %d 0x%016" PRIx64 " cfa 0x%016" PRIx64 "\n", i, frame.address, frame.cfa.value);

@@ -14,7 +14,7 @@ library=${DWCHECK_FLAGS:-$(pkg-config --cflags --libs dwcheck-dl)}
 build="-std=gnu11 -Wall -Wextra -Werror -O2 -g -fno-optimize-sibling-calls -rdynamic"
 for program in stack crash profiler attach core in_place; do
     case $program in
-    attach | core) with=$here/remote.c ;;
+    attach | core) with="$here/remote.c $here/state.c" ;;
     in_place) with=$here/state.c ;;
     *) with= ;;
     esac

@@ -13,7 +13,7 @@ static const char *const stops[] = {"limit", "not covered", "return undefined", 
 __attribute__((noinline)) void printed(void) { __asm__ volatile(""); }
 
 __attribute__((noinline)) static void print_stack(void) {
-    dwcheck_register_frame frames[FRAMES];
+    dwcheck_dl_frame frames[FRAMES];
     dwcheck_dl_request request = {.context = NULL};
     const int count = dwcheck_dl_frames(&request, frames, FRAMES);
     for (int i = 0; i < count; i++) printf("frame %d 0x%016" PRIx64 " cfa 0x%016" PRIx64 "\n", i, frames[i].place.address, frames[i].cfa);
