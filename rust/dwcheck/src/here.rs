@@ -13,7 +13,7 @@ pub struct OwnFrame {
     /// Its address: a return address, but for what a signal has interrupted. That is just after the call
     /// instruction, so to find the line of the call, look up the address minus one.
     pub address: usize,
-    /// Whether it is a guess, since a wrong pointer to a function was called.
+    /// Whether it is a guess, since a wrong pointer to a function was called, or code without rows.
     pub is_guess: bool,
 }
 
