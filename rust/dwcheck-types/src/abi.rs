@@ -52,7 +52,7 @@ pub struct Abi {
     /// writes it to the stack.
     pub link_register: Option<u16>,
     /// The DWARF number of the register that has the address of the thread's own data, which C libraries
-    /// put above the thread's stack. `None` if debuggers don't get it with the general registers.
+    /// put above the thread's stack. `None` if debuggers don't get it.
     pub thread_pointer: Option<u16>,
 }
 
@@ -93,7 +93,8 @@ pub const AARCH64: Abi = Abi {
     program_counter: 32,
     frame_pointer: 29,
     link_register: Some(30),
-    thread_pointer: None,
+    // tpidr_el0
+    thread_pointer: Some(36),
 };
 
 /// The calling convention of a machine (`e_machine`) with this address size. `None` if the two

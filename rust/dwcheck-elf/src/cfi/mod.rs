@@ -11,6 +11,7 @@ pub mod one_by_one;
 pub mod row;
 pub mod section_table;
 pub mod sframe;
+mod signal_return;
 pub mod stack_cfi;
 pub mod table;
 pub mod table_row;

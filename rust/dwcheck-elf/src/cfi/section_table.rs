@@ -4,6 +4,7 @@ use crate::cfi::fde_ranges::{FdeRange, FdeRanges};
 use crate::cfi::frames::{edited_bytes, find_record, Format, FrameSection, Kind, Name, Record};
 use crate::cfi::instructions::{instructions, with_nops, REMEMBER_STATE, RESTORE_STATE};
 use crate::cfi::one_by_one::OwnSection;
+use crate::cfi::signal_return;
 use crate::elf::program::Program;
 use dwcheck::{Error, Fault, FaultKind, Process};
 use std::borrow::Cow;
@@ -32,7 +33,8 @@ pub struct OneFde {
 }
 
 impl<'a> SectionTable<'a> {
-    /// The frame sections of a program, `.debug_frame` first, and why others can't be read.
+    /// The frame sections of a program, `.debug_frame` first, and why others can't be read. A program without any may have
+    /// code to which signal handlers return, for which there is a section of our own.
     pub fn all(program: &Program<'a>) -> (Vec<Self>, Vec<String>) {
         let mut problems = Vec::new();
         let mut sections = Vec::new();
@@ -41,6 +43,9 @@ impl<'a> SectionTable<'a> {
                 Ok(section) => sections.extend(section.map(Self::of)),
                 Err(error) => problems.push(error.to_string()),
             }
+        }
+        if sections.is_empty() && problems.is_empty() {
+            sections.extend(signal_return::section(program).map(Self::of));
         }
         (sections, problems)
     }

@@ -1,6 +1,6 @@
 //! Reads the notes of a core file: the signal, the process, the mapped files, the auxiliary vector.
 
-use super::registers::{read_prstatus, read_vector_registers, Thread};
+use super::registers::{add_thread_pointer, read_prstatus, read_vector_registers, Thread};
 use super::{CoreError, Sender, Signal};
 use crate::process::maps::{can_differ, Map};
 use dwcheck_types::abi::Abi;
@@ -14,6 +14,9 @@ pub(super) const AT_ENTRY: u64 = libc::AT_ENTRY;
 
 /// The type of the note that says which bits of an address hold an authentication code on aarch64.
 const NT_ARM_PAC_MASK: u32 = 0x406;
+
+/// The type of the note that has a thread's pointer to its own data on aarch64.
+const NT_ARM_TLS: u32 = 0x401;
 
 /// The type of the entry of the auxiliary vector that has the address of the vDSO.
 pub(super) const AT_SYSINFO_EHDR: u64 = libc::AT_SYSINFO_EHDR;
@@ -101,6 +104,10 @@ impl<'data> Notes<'data> {
         let Note { owner, kind, bytes } = *note;
         let read = match kind {
             NT_ARM_PAC_MASK if owner == b"LINUX" => self.add_pac_mask(bytes),
+            NT_ARM_TLS if owner == b"LINUX" => {
+                self.add_thread_pointer(bytes);
+                Ok(())
+            }
             _ if owner != b"CORE" => Ok(()),
             NT_PRSTATUS => read_prstatus(bytes, self.target, self.abi).map(|thread| self.threads.push(thread)),
             NT_PRFPREG => {
@@ -126,6 +133,15 @@ impl<'data> Notes<'data> {
     fn add_vector_registers(&mut self, bytes: &[u8]) {
         if let Some(thread) = self.threads.last_mut() {
             thread.vectors = read_vector_registers(bytes, self.target, self.abi).unwrap_or_default();
+        }
+    }
+
+    /// Reads an `NT_ARM_TLS` note, which is of the thread before it, and begins with the thread pointer. Walks need nothing
+    /// of it, so that it may be cut.
+    fn add_thread_pointer(&mut self, bytes: &[u8]) {
+        let pointer = Cursor::new(bytes, self.target).number(8);
+        if let (Some(thread), Ok(pointer)) = (self.threads.last_mut(), pointer) {
+            add_thread_pointer(&mut thread.registers, self.abi, pointer);
         }
     }
 

@@ -93,6 +93,16 @@ pub(crate) fn read_general_registers(bytes: &[u8], target: Target, abi: &Abi) ->
     Ok(held)
 }
 
+/// Adds the thread pointer to a thread's registers, which are in ascending order of their DWARF numbers, unless it is
+/// there.
+pub(crate) fn add_thread_pointer(registers: &mut Vec<(u16, u64)>, abi: &Abi, pointer: u64) {
+    if let Some(number) = abi.thread_pointer {
+        if let Err(place) = registers.binary_search_by_key(&number, |(number, _)| *number) {
+            registers.insert(place, (number, pointer));
+        }
+    }
+}
+
 /// Reads the low 8 bytes of the vector registers of a thread, as the kernel writes them for debuggers
 /// (`elf_fpregset_t`): xmm0 to xmm15 of x86-64, and v0 to v31 of aarch64.
 pub(crate) fn read_vector_registers(bytes: &[u8], target: Target, abi: &Abi) -> Result<Vec<(u16, u64)>, ReadError> {

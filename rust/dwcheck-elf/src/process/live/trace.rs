@@ -16,6 +16,9 @@ const PATIENCE: Duration = Duration::from_secs(1);
 /// The kind of the set of vector registers.
 const NT_PRFPREG: usize = 2;
 
+/// The kind of register set that has the thread pointer of aarch64.
+const NT_ARM_TLS: usize = 0x401;
+
 /// The kind of register set that says which bits of an address hold an authentication code.
 const NT_ARM_PAC_MASK: usize = 0x406;
 
@@ -53,7 +56,13 @@ impl Stopped {
     /// The registers by their DWARF numbers, ascending.
     pub fn registers(&self, target: Target, abi: &Abi) -> Option<Vec<(u16, u64)>> {
         let bytes = self.register_set(libc::NT_PRSTATUS as usize)?;
-        registers::read_general_registers(&bytes, target, abi).ok()
+        let mut held = registers::read_general_registers(&bytes, target, abi).ok()?;
+        // Other machines have no such set.
+        let pointer = self.register_set(NT_ARM_TLS).and_then(|bytes| Some(bytes.get(..8)?.try_into().ok()?));
+        if let Some(pointer) = pointer {
+            registers::add_thread_pointer(&mut held, abi, u64::from_ne_bytes(pointer));
+        }
+        Some(held)
     }
 
     /// The low 8 bytes of the vector registers by their DWARF numbers, ascending. Empty if the kernel has none.
