@@ -3,15 +3,25 @@
 #   tools/build.sh          build/dwcheck and build/libdwcheck_c.a
 #   tools/build.sh archive  build/libdwcheck_c.a alone, over what an `rt ci` has proved so far
 #   tools/build.sh sum      prints a checksum of everything that is proved
+# With ARCH=aarch64 in the environment, it makes build/aarch64/libdwcheck_c.a, and build/aarch64/dwcheck-program.o, which is still
+# to be linked, from the same proofs.
 # The crates are proved by `rt ci`, side by side, on a copy without tests and wrong bodies. It keeps
 # what it has proved on this machine, so only what has changed is proved again, here and in
 # `make test`. If `make test` has just proved these very files, which the checksum in build/proved
 # says, its results are taken. The library is proved while it is built: `rt ci` builds no static
 # libraries. It is kept too, in ~/.cache/dwcheck/libraries. Its code gets unwind rows by
-# tools/clang_with_rows.sh.
+# tools/clang_with_rows.sh. What its proof has checked is kept in build/checked for the other processor, for which the
+# library is checked again, since the processor is a part of the verdict: but all proofs are found there.
 set -eu
 top=$(dirname "$(dirname "$(realpath "$0")")")
 cd "$top"
+
+case ${ARCH:-x86_64} in
+x86_64) out=build ;;
+aarch64) out=build/aarch64 ;;
+*) echo "tools/build.sh: ARCH is x86_64 or aarch64" >&2 && exit 2 ;;
+esac
+target=${ARCH:-x86_64}-unknown-linux-gnu
 
 sum() {
     find crates -name out -prune -o -type f \( -name '*.rt' -o -name '*.antt' \) -print | LC_ALL=C sort |
@@ -79,10 +89,24 @@ note_without_rows() { # ARCHIVE
     [ "$rows" -ge "$functions" ] || echo "note: $((functions - rows)) of the library's $functions functions have no unwind rows, so walks that interrupt them are cut" >&2
 }
 
+# Checks and compiles a crate, over those in a folder.
+compile() { # FOLDER JOBS NAME OUT WORD..
+    local folder=$1 jobs=$2 name=$3 result=$4 kit
+    shift 4
+    kit=$(dirname "$(rt doc)")
+    [ -d "$folder/toolchain" ] || link_toolchain "$kit/toolchain" "$folder/toolchain"
+    (cd "crates/$name" && "$kit/bin/rattle" build --crate-name "$name" "$@" \
+        -L "dependency=$kit/rlibs" --antt-project "$kit/rattle/logic/antt-project.json" \
+        --logic-built "$kit/logic_built" --toolchain "$folder/toolchain" --backend llvm --jobs "$jobs" \
+        --target "$target" -o "$result") > "$out/log" 2>&1 < /dev/null || {
+        [ ! -s "$folder/toolchain/why" ] || stop "$folder/toolchain/why"
+        stop "$out/log"
+    }
+}
+
 build_library() { # FOLDER JOBS
     local kit words=() name
     kit=$(dirname "$(rt doc)")
-    link_toolchain "$kit/toolchain" "$1/toolchain"
     for name in $(library_names) std; do
         if [ -d "crates/$name" ]; then
             words+=(--extern "$name=$1/crates/$name/out/rlib/$name.rlib" -L "dependency=$1/crates/$name/out/rlib")
@@ -90,14 +114,21 @@ build_library() { # FOLDER JOBS
             words+=(--extern "$name=$kit/rlibs/$name.rlib")
         fi
     done
-    (cd crates/dwcheck_c && "$kit/bin/rattle" build --crate-name dwcheck_c src/lib.rt --crate-type staticlib "${words[@]}" \
-        -L "dependency=$kit/rlibs" --antt-project "$kit/rattle/logic/antt-project.json" \
-        --logic-built "$kit/logic_built" --toolchain "$1/toolchain" --backend llvm --jobs "$2" \
-        -o "$1/libdwcheck_c.a") > build/log 2>&1 < /dev/null || {
-        [ ! -s "$1/toolchain/why" ] || stop "$1/toolchain/why"
-        stop build/log
-    }
+    [ "$out" != build ] || rm -rf build/checked
+    compile "$1" "$2" dwcheck_c "$1/libdwcheck_c.a" src/lib.rt --crate-type staticlib "${words[@]}" --incremental "$top/build/checked"
     note_without_rows "$1/libdwcheck_c.a"
+}
+
+# The program for another processor than this machine's, whose own `rt ci` links. Its crate, a few functions, is checked
+# again.
+build_program() { # FOLDER JOBS
+    local kit words=() name
+    kit=$(dirname "$(rt doc)")
+    for name in $(names); do
+        words+=(-L "dependency=$1/crates/$name/out/rlib")
+    done
+    compile "$1" "$2" dwcheck "$1/dwcheck-program.o" src/main.rt --extern "dw_check=$1/crates/dw_check/out/rlib/dw_check.rlib" \
+        --extern "std=$kit/rlibs/std.rlib" "${words[@]}"
 }
 
 put() { # FILE TO: copies a file, unless it is there already with the same bytes
@@ -109,11 +140,11 @@ is_of_now() { # FILE CHECKSUM: whether the file has the checksum
 }
 
 archive_sum() { # a checksum of all that the library is made from
-    { sum && rt version && cat tools/build.sh tools/clang_with_rows.sh; } | sha256sum | cut -d ' ' -f 1
+    { sum && rt version && echo "$target" && cat tools/build.sh tools/clang_with_rows.sh; } | sha256sum | cut -d ' ' -f 1
 }
 
 begin() {
-    mkdir -p build
+    mkdir -p "$out"
     work=$(mktemp -d)
     trap 'rm -rf "$work"' EXIT
 }
@@ -121,25 +152,25 @@ begin() {
 # Where libraries are kept on this machine, as `rt ci` keeps proofs: by a checksum of all that one is made from.
 kept=${XDG_CACHE_HOME:-$HOME/.cache}/dwcheck/libraries
 
-keep() { # FILE CHECKSUM: keeps a library, and the two that were used last besides
+keep() { # FILE CHECKSUM: keeps a library, and the five that were used last besides
     mkdir -p "$kept" && cp "$1" "$kept/new-$$" && mv "$kept/new-$$" "$kept/$2" || true
-    ls -t "$kept" | tail -n +4 | (cd "$kept" && xargs -r rm -f)
+    ls -t "$kept" | tail -n +7 | (cd "$kept" && xargs -r rm -f)
 }
 
 archive() { # JOBS: builds the library over the crates in $work, unless that was done on this machine before
     local now
     now=$(archive_sum)
-    rm -f build/archive.sum
+    rm -f "$out/archive.sum"
     if [ -f "$kept/$now" ]; then
         echo "the library was proved and built on this machine before"
         touch "$kept/$now"
-        put "$kept/$now" build/libdwcheck_c.a
+        put "$kept/$now" "$out/libdwcheck_c.a"
     else
         build_library "$work" "$1"
-        put "$work/libdwcheck_c.a" build/libdwcheck_c.a
-        keep build/libdwcheck_c.a "$now"
+        put "$work/libdwcheck_c.a" "$out/libdwcheck_c.a"
+        keep "$out/libdwcheck_c.a" "$now"
     fi
-    echo "$now" > build/archive.sum
+    echo "$now" > "$out/archive.sum"
 }
 
 build_archive() { # Proofs of other crates keep the other processors busy.
@@ -155,11 +186,16 @@ build() {
     else
         prove_copy "$work"
     fi
-    if ! { [ -f build/libdwcheck_c.a ] && is_of_now build/archive.sum "$(archive_sum)"; }; then
+    if ! { [ -f "$out/libdwcheck_c.a" ] && is_of_now "$out/archive.sum" "$(archive_sum)"; }; then
         echo "proving and building dwcheck_c"
         archive "$(library_jobs)"
     fi
-    put "$work/crates/dwcheck/out/dwcheck" build/dwcheck
+    if [ "$out" = build ]; then
+        put "$work/crates/dwcheck/out/dwcheck" build/dwcheck
+    else
+        build_program "$work" "$(library_jobs)"
+        put "$work/dwcheck-program.o" "$out/dwcheck-program.o"
+    fi
 }
 
 set -o pipefail

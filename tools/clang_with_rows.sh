@@ -4,8 +4,9 @@
 # If they compile a module of LLVM (`-c -x ir MODULE -o OBJECT`), each of its functions first gets the attribute
 # `uwtable`. So the object has .eh_frame. Its code is the same but for padding on x86-64: no jump crosses 32 bytes.
 # Many processors of Intel don't keep such a jump once it is decoded, so a walk would take a quarter longer or not by
-# where a linker puts it. Everything else goes to CLANG as it is. If something fails, the last line of errors says
-# what, also in the file that ROWS_LOG names, if any.
+# where a linker puts it. On aarch64 return addresses are signed, and places to which indirect jumps lead are marked
+# (-mbranch-protection=standard), which the object's note says. Everything else goes to CLANG as it is. If something
+# fails, the last line of errors says what, also in the file that ROWS_LOG names, if any.
 set -u
 
 fail() { # WHAT
@@ -52,7 +53,22 @@ folder=$(mktemp -d) || fail "there is no temporary folder"
 trap 'rm -rf "$folder"' EXIT
 words_for_text "$folder/module.ll" "$@"
 "$clang" "${words[@]}" || fail "the module can't be written as text by $clang"
+
+# What clang writes for -mbranch-protection=standard: attributes of functions, and two flags of the module.
+protect() { # MODULE
+    local attributes='"branch-target-enforcement" "sign-return-address"="non-leaf" "sign-return-address-key"="a_key"'
+    local first=900000001 second=900000002
+    grep -q '^!llvm.module.flags = ' "$1" || echo '!llvm.module.flags = !{}' >> "$1"
+    printf '!%s = !{i32 8, !"%s", i32 2}\n' $first branch-target-enforcement $second sign-return-address >> "$1"
+    sed -i -e "s/^\(attributes #[0-9]* = {\)/\1 $attributes/" \
+        -e "s/^\(!llvm.module.flags = !{\)\(..*}\)\$/\1!$first, !$second, \2/" \
+        -e "s/^\(!llvm.module.flags = !{\)}\$/\1!$first, !$second}/" "$1"
+}
+
 sed -i 's/^\(attributes #[0-9]* = {\)/\1 uwtable/' "$folder/module.ll" || fail "the text of the module can't be changed"
 padding=()
-grep -q '^target triple = "x86_64' "$folder/module.ll" && padding=(-mbranches-within-32B-boundaries)
+case $(sed -n 's/^target triple = "\([^"-]*\).*/\1/p' "$folder/module.ll") in
+x86_64) padding=(-mbranches-within-32B-boundaries) ;;
+aarch64*) protect "$folder/module.ll" || fail "the text of the module can't be changed" ;;
+esac
 "$clang" "${@:1:place-1}" "$folder/module.ll" "${@:place+1}" "${padding[@]}" || fail "the module with rows can't be compiled by $clang"

@@ -2,9 +2,11 @@
 # The Debian 12 packages that this repository uses.
 #   tools/packages.sh missing GROUP..   prints those that aren't installed, one a line
 #   tools/packages.sh install GROUP..   installs them, which needs root, or sudo without a password
-# The groups: `rust`, the libraries that dwcheck-elf uses; `cargo`; and `test`, what `make test` needs
-# besides. If packages can't be installed, `install` says in one line what to do, and its status is 1.
-# Then none has been installed.
+#   tools/packages.sh missing_arm64     prints arm64's libraries, unless they are in build/arm64-root
+#   tools/packages.sh install_arm64     unpacks them there, and installs nothing
+# The groups: `rust`, the libraries that dwcheck-elf uses; `cargo`; `arm64`, the cross compiler for
+# aarch64; and `test`, what `make test` needs besides. If packages can't be installed, `install` says
+# in one line what to do, and its status is 1. Then none has been installed.
 set -u
 
 rust="librust-object-dev librust-gimli-dev librust-addr2line-dev librust-flate2-dev librust-crc32fast-dev
@@ -14,12 +16,18 @@ rust="librust-object-dev librust-gimli-dev librust-addr2line-dev librust-flate2-
     librust-rusqlite-dev librust-sha2-dev librust-tar-dev
     libzydis-dev libzstd-dev liblz4-dev gcc"
 cargo="cargo rustc"
+arm64="gcc-aarch64-linux-gnu libc6-dev-arm64-cross binutils-aarch64-linux-gnu"
+# Those with which dwcheck-elf is linked and runs, and two more whose rows tests read.
+arm64_libraries="libstd-rust-dev libzydis-dev libzydis4.0 libzycore1.4 libzstd-dev libzstd1 liblz4-dev liblz4-1
+    libsqlite3-dev libsqlite3-0 liblzma-dev liblzma5 libc6 libgcc-s1 libstdc++6 libssl3"
+# What bench/arm64/vm.sh needs.
+vm="qemu-system-arm cpio"
 # The last two lines are assemblers of other machines, which tests of dwcheck-elf use.
 test="gcc g++ libc6-dev make binutils pkg-config python3 python3-pyelftools rust-clippy rustfmt valgrind libc6-dbg gdb elfutils xz-utils zstd lz4 sqlite3 parallel slurmctld slurmd slurm-client
     libunwind-dev heaptrack libgoogle-perftools4 libgoogle-glog-dev xvfb libgstreamer1.0-0 strace clang clang-16 lld llvm golang-go gdb-multiarch qemu-user linux-perf libc6-dev-i386 lib32gcc-12-dev
-    gcc-aarch64-linux-gnu libc6-dev-arm64-cross gcc-arm-linux-gnueabihf libc6-dev-armhf-cross
+    $arm64 gcc-arm-linux-gnueabihf libc6-dev-armhf-cross
     $(printf 'binutils-%s-linux-gnu ' i686 alpha hppa mips powerpc powerpc64 powerpc64le riscv64 s390x sparc64)
-    binutils-aarch64-linux-gnu binutils-arm-linux-gnueabihf"
+    binutils-arm-linux-gnueabihf"
 
 missing() { # GROUP..
     for group in "$@"; do
@@ -54,7 +62,17 @@ install() { # GROUP..
     rm "$log"
 }
 
+top=$(dirname "$(dirname "$(realpath "$0")")")
+
+missing_arm64() {
+    [ -f "$top/build/arm64-root/packages" ] || printf '%s\n' $arm64_libraries
+}
+
+install_arm64() {
+    "$top/tools/arm64_root.sh" "$top/build/arm64-root" bookworm $arm64_libraries
+}
+
 case ${1:-} in
-missing | install) "$@" ;;
-*) stop "usage: tools/packages.sh missing|install rust|cargo|test .." ;;
+missing | install | missing_arm64 | install_arm64) "$@" ;;
+*) stop "usage: tools/packages.sh missing|install rust|cargo|arm64|test .., or missing_arm64|install_arm64" ;;
 esac
