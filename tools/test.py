@@ -155,6 +155,7 @@ STAGES = [
           environment={"LIBRARY": str(BUILD / "libdwcheck.a")}),
     Stage("unwind", "libunwind's own tests and unchanged programs, over the library", "WORK=build/suite bench/unwind/suite.sh build/unwind; bench/unwind/clients.py build/unwind",
           counted_lines, progress="^(ok .*)"),
+    Stage("arm64", "what is built for aarch64, under qemu-user", "tests/arm64/run.sh", counted_lines, progress="^(ok .*)"),
     Stage("examples", "frames of the examples beside those of gdb and eu-stack", "examples/run.sh", counted_lines,
           progress="^(ok .*)", environment=RUST),
 ]

@@ -1,14 +1,7 @@
-/* For the tests of look-ups in place: sections and search tables made for a test, rows as text, and the
-   sections of an ELF file. */
+/* For the tests of look-ups in place: sections and search tables made for a test, and rows as text. */
+#include "elf_file.h"
 #include "dwcheck.h"
-#include <elf.h>
-#include <fcntl.h>
 #include <stdio.h>
-#include <stdlib.h>
-#include <string.h>
-#include <sys/mman.h>
-#include <sys/stat.h>
-#include <unistd.h>
 
 enum { SECTION_ADDRESS = 0x2000, HEADER_ADDRESS = 0x3000, MAX_ENTRIES = 30 };
 
@@ -89,26 +82,4 @@ static void write_row(char *to, size_t length, const dwcheck_row *row, const dwc
         else if (rule->kind == DWCHECK_RULE_SAME_VALUE) n += snprintf(to + n, length - n, "s");
         else n += snprintf(to + n, length - n, "expr(%llu)", (unsigned long long)rule->length);
     }
-}
-
-/* An ELF file of 64 bits that is mapped. */
-struct file { const uint8_t *bytes; size_t length; };
-
-static struct file file_at(const char *path) {
-    int descriptor = open(path, O_RDONLY);
-    struct stat status;
-    if (descriptor < 0 || fstat(descriptor, &status)) abort();
-    void *bytes = mmap(NULL, (size_t)status.st_size, PROT_READ, MAP_PRIVATE, descriptor, 0);
-    if (bytes == MAP_FAILED) abort();
-    close(descriptor);
-    return (struct file){bytes, (size_t)status.st_size};
-}
-
-static const Elf64_Shdr *section_named(const struct file *file, const char *name) {
-    const Elf64_Ehdr *header = (const void *)file->bytes;
-    const Elf64_Shdr *sections = (const void *)(file->bytes + header->e_shoff);
-    const char *names = (const char *)file->bytes + sections[header->e_shstrndx].sh_offset;
-    for (int i = 0; i < header->e_shnum; i++)
-        if (!strcmp(names + sections[i].sh_name, name)) return &sections[i];
-    abort();
 }

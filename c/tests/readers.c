@@ -20,7 +20,10 @@
 
 enum { FDES = 5000, STEP = 0x40, BASE = 0x100000, FRAMES = 32, PAGE = 4096 };
 /* Of the CALLS of a round each is left in its turn, since CALLS and LEAVES have no common divisor. */
-enum { THREADS = 8, ROUNDS = 1000, CALLS = 4, LEAVES = 5, CHILDREN = 8, CHANGES = 1000 };
+#ifndef ROUNDS
+#define ROUNDS 1000
+#endif
+enum { THREADS = 8, CALLS = 4, LEAVES = 5, CHILDREN = 8, CHANGES = 1000 };
 static const uint64_t load = 0x7f0000000000, cookie = 0x1234567890;
 static const uint64_t second = 0x7e0000000000; /* where a module is loaded that comes and goes */
 static const uint64_t top = 0x7ffc00000000;    /* the stack pointer of the innermost frame */

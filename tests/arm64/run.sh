@@ -1,0 +1,168 @@
+#!/bin/bash
+# Tests what `make ARCH=aarch64` has built, in build/aarch64, under qemu-user: with Debian 12's libraries for arm64, and with
+# Debian 13's, whose return addresses are signed. Both are unpacked in build/, and nothing is installed.
+# Prints a line `ok NAME` or `FAILED NAME` for each test, and ends with status 1 if one failed.
+set -u
+top=$(dirname "$(dirname "$(dirname "$(realpath "$0")")")")
+built=$top/build/aarch64
+root=$top/build/arm64-root
+newer=$top/build/arm64-root-13
+out=$(mktemp -d)
+trap 'rm -rf "$out"' EXIT
+. "$top/tools/each_test.sh"
+version=$(sed -n 's/^version := //p' "$top/Makefile")
+strict="-Wall -Wextra -pedantic -Werror -I$top/c/include"
+# Signatures of return addresses are computed as qemu likes, and not as the architecture does, which is slow.
+emulator="qemu-aarch64 -cpu max,pauth-impdef=on -L"
+
+compile() { # PROGRAM FLAG..: compiles a program with the libraries
+    local program=$1
+    shift
+    aarch64-linux-gnu-gcc -std=gnu11 $strict -O2 -g -fno-optimize-sibling-calls -fno-omit-frame-pointer "$@" \
+        -x none "$built/libdwcheck-dl.a" "$built/libdwcheck.a" -o "$out/$program" -pthread -ldl
+}
+
+emulate() { # ROOT PROGRAM WORD..
+    local root=$1 program=$2
+    shift 2
+    timeout 300 $emulator "$root" "$out/$program" "$@"
+}
+
+c_test() { # PROGRAM FLAG..: builds a test of c/tests, and runs it
+    local program=$1
+    shift
+    compile "$program" "$@" "$top/c/tests/$program.c" && emulate "$root" "$program"
+}
+
+c_test_with() { # WORD PROGRAM FLAG..: the same with a word for the program
+    local word=$1 program=$2
+    shift 2
+    compile "$program" "$@" "$top/c/tests/$program.c" && emulate "$root" "$program" "$word"
+}
+
+in_both() { # PROGRAM FLAG..: the same, also with Debian 13's libraries
+    c_test "$@" && emulate "$newer" "$1"
+}
+
+is_protected() { # LIBRARY: whether its note says that return addresses are signed, and jumps protected
+    aarch64-linux-gnu-readelf -n "$1" | grep -q 'AArch64 feature: BTI, PAC'
+}
+
+# For libraries that the loader marks, each address to which an indirect jump leads begins with one of these.
+are_protected() {
+    local library
+    for library in "$built/libdwcheck.so.$version" "$built/libdwcheck-dl.so.$version"; do
+        is_protected "$library" || return 1
+    done
+}
+
+exported() { # LIBRARY
+    nm -D --defined-only "$1" | cut -d ' ' -f 3 | sort
+}
+
+export_the_same() {
+    local name
+    for name in libdwcheck libdwcheck-dl; do
+        diff <(exported "$top/build/$name.so.$version") <(exported "$built/$name.so.$version") || return 1
+        [ "$(exported "$built/$name.so.$version" | grep -c '^dwcheck_')" -gt 5 ] || return 1
+    done
+}
+
+# Each function of the library has an FDE.
+have_rows() {
+    local functions rows
+    functions=$(readelf -sW "$built/libdwcheck_c.a" 2> /dev/null | awk '$4 == "FUNC" && $3 > 0 && $7 != "UND"' | wc -l)
+    rows=$(readelf -W --debug-dump=frames "$built/libdwcheck_c.a" 2> /dev/null | grep -c ' FDE ')
+    [ "$functions" -gt 100 ] && [ "$rows" -ge "$functions" ]
+}
+
+shadow() { # a chain of calls whose return addresses are also on a shadow call stack
+    clang-16 --target=aarch64-linux-gnu -isystem /usr/aarch64-linux-gnu/include -std=gnu11 $strict -O2 -g -fsanitize=shadow-call-stack \
+        -ffixed-x18 -fasynchronous-unwind-tables -c "$top/c/tests/dl_shadow.c" -o "$out/dl_shadow.o" &&
+        compile dl_shadow "$out/dl_shadow.o" && emulate "$root" dl_shadow
+}
+
+modules() { # FLAG..: builds libraries that come and go, and runs the tests with them
+    local library size i
+    printf 'void call_back(void (*f)(void)); void call_back(void (*f)(void)) { f(); __asm__ volatile(""); }\n' > "$out/called.c"
+    aarch64-linux-gnu-gcc -O2 -fPIC -shared "$@" "$out/called.c" -o "$out/called.so" || return 1
+    for size in small:1000 large:4000; do
+        printf 'void call_back(void (*f)(void));\nvoid call_back(void (*f)(void)) { volatile char bytes[%s]; bytes[0] = 1; f(); bytes[1] = 2; }\n' "${size#*:}" |
+            aarch64-linux-gnu-gcc -O2 -fPIC -shared "$@" -x c - -o "$out/${size%:*}.so" || return 1
+    done
+    for i in $(seq 70); do cp "$out/called.so" "$out/copy$i.so"; done
+    compile dl_modules "$@" -DROUNDS=200 "$top/c/tests/dl_modules.c" &&
+        emulate "$root" dl_modules "$out/called.so" "$out/small.so" "$out/large.so" "$out"/copy*.so
+}
+
+linked() { # FLAG..: whether a program with many functions finds its four frames
+    {
+        printf '#include "dwcheck-dl.h"\n#include <stdio.h>\nint main(void) {\n    void *frames[9];\n    dwcheck_dl_prepare();\n'
+        printf '    return printf("%%d frames\\n", dwcheck_dl_backtrace(frames, 9)) < 0;\n}\n'
+        seq 900 | sed 's/.*/int f&(int x); int f&(int x) { return x + &; }/'
+    } > "$out/linked.c"
+    compile linked "$@" "$out/linked.c" && [ "$(emulate "$root" linked)" = "4 frames" ]
+}
+
+shared() { # over the shared libraries
+    ln -sf "$built/libdwcheck.so.$version" "$out/libdwcheck.so.2" && ln -sf "$built/libdwcheck-dl.so.$version" "$out/libdwcheck-dl.so.2" &&
+        aarch64-linux-gnu-gcc -std=gnu11 $strict "$out/linked.c" "$out/libdwcheck-dl.so.2" "$out/libdwcheck.so.2" -Wl,-rpath,"$out" \
+            -o "$out/over_shared" && [ "$(emulate "$root" over_shared)" = "4 frames" ]
+}
+
+in_place() { # look-ups in the C library's own section
+    compile in_place -D_GNU_SOURCE "$top/c/tests/in_place.c" -Wl,--wrap=malloc,--wrap=realloc &&
+        emulate "$root" in_place "$root/usr/lib/aarch64-linux-gnu/libc.so.6" 16
+}
+
+rows() { # ROOT: rows of its libraries beside readelf's
+    local libraries=$1/usr/lib/aarch64-linux-gnu
+    aarch64-linux-gnu-gcc -std=gnu11 -D_GNU_SOURCE $strict -O2 "$top/tests/arm64/rows.c" "$built/libdwcheck.a" -o "$out/rows" &&
+        "$top/tests/arm64/rows.py" "$libraries"/{libc.so.6,libstdc++.so.6,libcrypto.so.3} "$libraries/ld-linux-aarch64.so.1" -- \
+            $emulator "$root" "$out/rows"
+}
+
+# The cases of the program dwcheck, all of them.
+program() {
+    printf '#!/bin/sh\nexec %s %s %s "$@"\n' "$emulator" "$root" "$built/dwcheck" > "$out/dwcheck" && chmod +x "$out/dwcheck" &&
+        "$top/tests/dwcheck/run.py" "$out/dwcheck" > "$out/cases" 2>&1 || grep -A 5 '^FAILED' "$out/cases" | head -n 20
+    grep -c '^ok ' "$out/cases"
+    [ "$(grep -c '^ok ' "$out/cases")" -gt 1000 ] && ! grep -q '^FAILED' "$out/cases"
+}
+
+# dwcheck-elf reads its own tables, and the C library's.
+elf_program() {
+    $emulator "$root" "$built/dwcheck-elf" check "$built/dwcheck-elf" "$root/usr/lib/aarch64-linux-gnu/libc.so.6" > "$out/checked" &&
+        [ "$(grep -c '\.eh_frame: accepted' "$out/checked")" = 2 ]
+}
+
+"$top/tools/packages.sh" install_arm64 && "$top/tools/arm64_root.sh" "$newer" trixie libc6 libgcc-s1 libstdc++6 libssl3t64 || exit 1
+(cd "$top" && make -s ARCH=aarch64) || exit 1
+
+test_of "arm64: the shared libraries are marked as protected" are_protected
+test_of "arm64: the shared libraries export what those for x86-64 do" export_the_same
+test_of "arm64: each function of the library has unwind rows" have_rows
+test_of "arm64: cases over the library for C" c_test cases -D_GNU_SOURCE
+test_of "arm64: cases while allocations fail in turn" c_test cases -D_GNU_SOURCE -DREFUSING
+test_of "arm64: steps of a cursor" c_test cursor -D_GNU_SOURCE
+test_of "arm64: walks with a cache" c_test cache -D_GNU_SOURCE
+test_of "arm64: calls that read one process at once" c_test readers -D_GNU_SOURCE -DROUNDS=100
+test_of "arm64: look-ups in place" in_place
+test_of "arm64: rows of Debian 12's libraries are readelf's" rows "$root"
+test_of "arm64: rows of Debian 13's libraries, which sign return addresses, are readelf's" rows "$newer"
+test_of "arm64: stacks of dwcheck-dl are glibc's, with nothing called before" in_both dl
+test_of "arm64: the same with signed return addresses" in_both dl -mbranch-protection=standard
+test_of "arm64: stacks with signed return addresses, also where one is in its register" in_both dl_signed -mbranch-protection=standard
+test_of "arm64: the same by the key B" in_both dl_signed -mbranch-protection=pac-ret+leaf+b-key
+test_of "arm64: a stack with a shadow call stack" shadow
+test_of "arm64: walks from wherever a timer interrupts reach the start" c_test_with 1500 dl_interrupted
+test_of "arm64: the same with signed return addresses" c_test_with 1500 dl_interrupted -mbranch-protection=standard
+test_of "arm64: stacks are glibc's, while libraries come and go" modules
+test_of "arm64: the same with signed return addresses" modules -mbranch-protection=standard
+test_of "arm64: a stack of a static program" linked -static
+test_of "arm64: a stack whose rows are in .debug_frame" linked -fno-asynchronous-unwind-tables -g
+test_of "arm64: the same with signed return addresses" linked -fno-asynchronous-unwind-tables -g -mbranch-protection=standard
+test_of "arm64: a stack over the shared libraries" shared
+test_of "arm64: the cases of the program dwcheck" program
+test_of "arm64: dwcheck-elf checks programs" elf_program
+exit $status
