@@ -1,0 +1,62 @@
+#!/usr/bin/env bash
+# Runs what `make ARCH=aarch64` has built on Debian's kernel for arm64, in a virtual machine: ptrace, core files of the
+# kernel, its vDSO and perf, none of which qemu-user has. Frames are compared with gdb's.
+#   bench/arm64/vm.sh [FOLDER]
+# FOLDER (build/arm64-vm) keeps Debian's packages, some 700 MB. Prints a line `ok NAME` or `FAILED NAME` for each
+# comparison (bench/arm64/in_vm.sh), and ends with status 1 if one failed or the machine didn't come to its end. Needs
+# qemu-system-arm and cpio, which it installs (tools/packages.sh), and no rights besides.
+set -eu
+top=$(dirname "$(dirname "$(dirname "$(realpath "$0")")")")
+folder=$(realpath -m "${1:-$top/build/arm64-vm}")
+built=$top/build/aarch64
+root=$folder/root
+seconds=1200
+
+# The programs that the machine has, beside those that are tested.
+packages="linux-image-cloud-arm64 bash coreutils grep sed gawk diffutils mount procps gdb libc6-dbg linux-perf
+    libzydis4.0 libzstd1 liblz4-1 libsqlite3-0 liblzma5 libstdc++6 libssl3"
+
+cross() { # PROGRAM FLAG..: compiles a program for the machine
+    local program=$1
+    shift
+    aarch64-linux-gnu-gcc -std=gnu11 -D_GNU_SOURCE -Wall -Wextra -I"$top/c/include" -O2 -g -fno-optimize-sibling-calls \
+        -fno-omit-frame-pointer -rdynamic "$@" -x none "$built/libdwcheck-dl.a" "$built/libdwcheck.a" -o "$folder/test/$program" -pthread -ldl
+}
+
+# Each test and example, with return addresses as they are and signed.
+compile() {
+    local kind signing with program
+    printf 'void call_back(void (*f)(void)); void call_back(void (*f)(void)) { f(); __asm__ volatile(""); }\n' > "$folder/called.c"
+    aarch64-linux-gnu-gcc -O2 -fPIC -shared "$folder/called.c" -o "$folder/test/called.so"
+    for kind in plain signed; do
+        signing=
+        if [ $kind = signed ]; then signing=-mbranch-protection=standard; fi
+        for program in dl dl_signed dl_interrupted; do cross $program-$kind $signing "$top/c/tests/$program.c"; done
+        for program in stack crash attach core profiler; do
+            with=
+            case $program in attach | core) with="$top/examples/c/remote.c $top/examples/c/state.c" ;; esac
+            cross $program-$kind $signing "$top/examples/c/$program.c" $with
+        done
+        aarch64-linux-gnu-gcc -g -O0 -pthread $signing "$top/examples/rust/crash.c" -o "$folder/test/dies-$kind"
+        aarch64-linux-gnu-gcc -g -O1 $signing -fno-optimize-sibling-calls "$top/bench/arm64/handler.c" -o "$folder/test/handler-$kind"
+        aarch64-linux-gnu-gcc -g -O1 $signing "$top/bench/arm64/threads.c" -pthread -o "$folder/test/threads-$kind"
+    done
+    cp "$top/bench/arm64/in_vm.sh" "$top/bench/arm64/init" "$top/examples/c/compare.py" "$built/dwcheck" "$built/dwcheck-elf" "$folder/test/"
+}
+
+# The file system that the machine starts with, in memory: Debian's programs without the kernel's modules, and the tests.
+pack() {
+    (cd "$root" && find . -path ./usr/lib/modules -prune -o -path ./boot -prune -o -path ./usr/share/doc -prune -o -print0 |
+        cpio --null -o -H newc --quiet)
+    (cd "$folder" && find test -print0 | cpio --null -o -H newc --quiet)
+    (cd "$folder/test" && echo init | cpio -o -H newc --quiet)
+}
+
+"$top/tools/packages.sh" install vm arm64
+"$top/tools/arm64_root.sh" --whole "$root" bookworm $packages
+rm -rf "$folder/test" && mkdir -p "$folder/test"
+compile
+pack > "$folder/files"
+timeout $seconds qemu-system-aarch64 -M virt -cpu max,pauth-impdef=on${SVE:-} -m 3G -smp 2 -nographic -no-reboot -nic none \
+    -kernel "$root"/boot/vmlinuz-* -initrd "$folder/files" -append "console=ttyAMA0 panic=-1 quiet" < /dev/null | tr -d '\r' | tee "$folder/log"
+grep -q '^END' "$folder/log" && ! grep -q '^FAILED' "$folder/log"
