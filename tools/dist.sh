@@ -1,5 +1,6 @@
 #!/usr/bin/env bash
-# Makes build/dist/dwcheck-VERSION-x86_64-linux.tar.xz: what a machine without the kit can use. It has the
+# Makes build/dist/dwcheck-VERSION-x86_64-linux.tar.xz, or with ARCH=aarch64 in the environment
+# build/aarch64/dist/dwcheck-VERSION-aarch64-linux.tar.xz: what a machine without the kit can use. It has the
 # programs, the C libraries with header, pkg-config and CMake files, the Python module, manual pages,
 # completions, docs, checksums, and a page that says what was proved, by which kit, from which commit.
 # Debian has no static Zydis, so the programs come with the shared libraries that they need, libc and its
@@ -8,13 +9,27 @@ set -eu
 top=$(dirname "$(dirname "$(realpath "$0")")")
 cd "$top"
 version=$(sed -n 's/^version := //p' Makefile)
-name=dwcheck-$version-x86_64-linux
-out=build/dist/$name
+arch=${ARCH:-x86_64}
+case $arch in
+x86_64)
+    built=build loader=ld-linux-x86-64.so.2
+    unwind="unwind/libunwind.so.8 unwind/libunwind-x86_64.so.8 unwind/libunwind-ptrace.so.0"
+    run=
+    ;;
+aarch64)
+    built=build/aarch64 loader=ld-linux-aarch64.so.1 unwind=
+    root=build/arm64-root
+    run="qemu-aarch64 -L $root"
+    ;;
+*) echo "ARCH is x86_64 or aarch64" >&2 && exit 2 ;;
+esac
+name=dwcheck-$version-$arch-linux
+out=$built/dist/$name
 
 [ -z "$(git status --porcelain)" ] || { echo "the tree has changes that aren't committed" >&2; exit 1; }
 for file in dwcheck dwcheck-elf libdwcheck.a "libdwcheck.so.$version" libdwcheck-dl.a "libdwcheck-dl.so.$version" \
-    unwind/libunwind.so.8 unwind/libunwind-x86_64.so.8 unwind/libunwind-ptrace.so.0 man/dwcheck.1 man/dwcheck-elf.1 man/dwcheck.3; do
-    [ -f "build/$file" ] || { echo "build/$file isn't there: run make first" >&2; exit 1; }
+    $unwind man/dwcheck.1 man/dwcheck-elf.1 man/dwcheck.3; do
+    [ -f "$built/$file" ] || { echo "$built/$file isn't there: run make first" >&2; exit 1; }
 done
 
 put() { # MODE FOLDER FILE..
@@ -25,18 +40,32 @@ put() { # MODE FOLDER FILE..
 }
 
 libraries_of() { # PROGRAM: prints the paths of the shared libraries that it needs
-    ldd "build/$1" | sed -n 's|^[^/]*\(/[^ ]*\) (.*|\1|p'
+    if [ "$arch" = x86_64 ]; then
+        ldd "build/$1" | sed -n 's|^[^/]*\(/[^ ]*\) (.*|\1|p'
+    else
+        tools/arm64_libraries.sh paths "$built/$1"
+    fi
+}
+
+packages_of() { # PROGRAM: prints the packages of these libraries, each with its version
+    if [ "$arch" = x86_64 ]; then
+        for library in $(libraries_of "$1"); do
+            dpkg -S "$library" 2> /dev/null || dpkg -S "/usr$library"
+        done | sed 's/: .*//' | LC_ALL=C sort -u | xargs dpkg-query -W -f '${Package} ${Version}\n'
+    else
+        tools/arm64_libraries.sh packages "$built/$1"
+    fi
 }
 
 # A program, its shared libraries, and a script that starts it with these.
 put_program() { # NAME
-    put 755 lib/dwcheck "build/$1" $(libraries_of "$1")
+    put 755 lib/dwcheck "$built/$1" $(libraries_of "$1")
     install -d "$out/bin"
     cat > "$out/bin/$1" << END
 #!/bin/sh
 # Starts the program with the libraries that came with it, whatever this system has.
 libraries=\$(dirname "\$(readlink -f "\$0")")/../lib/dwcheck
-exec "\$libraries/ld-linux-x86-64.so.2" --library-path "\$libraries" "\$libraries/$1" "\$@"
+exec "\$libraries/$loader" --library-path "\$libraries" "\$libraries/$1" "\$@"
 END
     chmod 755 "$out/bin/$1"
 }
@@ -49,7 +78,7 @@ relocatable() { # NAME
 
 completions() { # SHELL FILE
     install -d "$(dirname "$out/share/$2")"
-    build/dwcheck-elf completions "$1" > "$out/share/$2"
+    $run "$built/dwcheck-elf" completions "$1" > "$out/share/$2"
 }
 
 # What was proved: the commit, the kit, and a checksum of everything that a proof reads.
@@ -63,11 +92,10 @@ provenance() {
     sed -n 's/^\([a-z_]*\)\( staticlib\)\?:.*/\1/p' crates.txt
     echo
     echo "Debian's packages of the libraries in lib/dwcheck:"
-    for library in $(libraries_of dwcheck-elf); do
-        dpkg -S "$library" 2> /dev/null || dpkg -S "/usr$library"
-    done | sed 's/: .*//' | LC_ALL=C sort -u | xargs dpkg-query -W -f '${Package} ${Version}\n'
+    packages_of dwcheck-elf
     echo
-    echo "Not proved: dwcheck-elf, libdwcheck-dl, libunwind's calls (lib/unwind), dwcheck.hpp, dwcheck.cppm, dwcheck.py, and the C files of c/."
+    [ -z "$unwind" ] || echo "Not proved: libunwind's calls (lib/unwind)."
+    echo "Not proved: dwcheck-elf, libdwcheck-dl, dwcheck.hpp, dwcheck.cppm, dwcheck.py, and the C files of c/."
 }
 
 # The licenses of what the programs and libraries contain beside this project's own files: crates of the
@@ -81,22 +109,24 @@ licenses() {
         done
     done
     { sed -n 's/^name = "\(.*\)"/librust-\1-dev/p' rust/Cargo.lock | tr _ -
-      for library in $(libraries_of dwcheck-elf); do dpkg -S "$library" 2> /dev/null || dpkg -S "/usr$library"; done | sed 's/:.*//'
+      packages_of dwcheck-elf | cut -d ' ' -f 1
     } | LC_ALL=C sort -u | while read -r name; do
-        [ ! -f "/usr/share/doc/$name/copyright" ] || install -D -m 644 "/usr/share/doc/$name/copyright" "$to/debian/$name"
+        for file in "${root:-}/usr/share/doc/$name/copyright" "/usr/share/doc/$name/copyright"; do
+            if [ -f "$file" ]; then install -D -m 644 "$file" "$to/debian/$name" && break; fi
+        done
     done
 }
 
-rm -rf build/dist
+rm -rf "$built/dist"
 put_program dwcheck
 put_program dwcheck-elf
-put 644 lib build/libdwcheck.a build/libdwcheck-dl.a
+put 644 lib "$built/libdwcheck.a" "$built/libdwcheck-dl.a"
 for library in libdwcheck libdwcheck-dl; do
-    put 755 lib "build/$library.so.$version"
+    put 755 lib "$built/$library.so.$version"
     ln -s "$library.so.$version" "$out/lib/$library.so.2"
     ln -s "$library.so.2" "$out/lib/$library.so"
 done
-put 755 lib/unwind build/unwind/libunwind.so.8 build/unwind/libunwind-x86_64.so.8 build/unwind/libunwind-ptrace.so.0
+for library in $unwind; do put 755 lib/unwind "$built/$library"; done
 put 644 include c/include/dwcheck.h c/include/dwcheck.hpp c/include/dwcheck.cppm c/include/dwcheck-dl.h c/include/dwcheck-unwind.h
 install -d "$out/lib/pkgconfig"
 relocatable dwcheck
@@ -104,8 +134,8 @@ relocatable dwcheck-dl
 put 644 lib/cmake/dwcheck c/dwcheckConfig.cmake
 sed "s/@VERSION@/$version/" c/dwcheckConfigVersion.cmake.in > "$out/lib/cmake/dwcheck/dwcheckConfigVersion.cmake"
 put 644 share/python python/dwcheck.py
-put 644 share/man/man1 build/man/dwcheck.1 build/man/dwcheck-elf.1
-put 644 share/man/man3 build/man/dwcheck.3
+put 644 share/man/man1 "$built/man/dwcheck.1" "$built/man/dwcheck-elf.1"
+put 644 share/man/man3 "$built/man/dwcheck.3"
 put 644 share/doc/dwcheck README.md CHANGES.md LICENSE-MIT LICENSE-APACHE docs/*.md
 licenses
 completions bash bash-completion/completions/dwcheck-elf
@@ -115,5 +145,5 @@ provenance > "$out/share/doc/dwcheck/PROVENANCE"
 (cd "$out" && find . -type f ! -name SHA256SUMS -print0 | LC_ALL=C sort -z | xargs -0 sha256sum > SHA256SUMS)
 # No date, owner or order of this machine goes into the archive.
 tar --sort=name --owner=0 --group=0 --numeric-owner --mtime="@$(git log -1 --format=%ct)" --format=gnu \
-    -C build/dist -cf - "$name" | xz -T1 -6 > "build/dist/$name.tar.xz"
-(cd build/dist && sha256sum "$name.tar.xz" | tee "$name.tar.xz.sha256")
+    -C "$built/dist" -cf - "$name" | xz -T1 -6 > "$built/dist/$name.tar.xz"
+(cd "$built/dist" && sha256sum "$name.tar.xz" | tee "$name.tar.xz.sha256")
