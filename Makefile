@@ -49,9 +49,11 @@ built := $(out)/dwcheck $(out)/libdwcheck.a $(out)/libdwcheck.so.$(version) $(ou
     $(unwind) $(out)/dwcheck.pc $(out)/dwcheck-dl.pc
 pages := $(patsubst man/%.md,$(out)/man/%,$(wildcard man/*.md))
 
-.PHONY: all try test packages dist install clean FORCE
+.PHONY: all but_elf try test packages dist install clean FORCE
 
 all: $(built) $(out)/dwcheck-elf $(pages)
+
+but_elf: $(built)
 
 try:
 	@tools/try.sh

@@ -3,15 +3,17 @@
 #   tools/build.sh          build/dwcheck and build/libdwcheck_c.a
 #   tools/build.sh archive  build/libdwcheck_c.a alone, over what an `rt ci` has proved so far
 #   tools/build.sh sum      prints a checksum of everything that is proved
-# With ARCH=aarch64 in the environment, it makes build/aarch64/libdwcheck_c.a, and build/aarch64/dwcheck-program.o, which is still
-# to be linked, from the same proofs.
+# With ARCH=aarch64 in the environment, it makes build/aarch64/libdwcheck_c.a, and
+# build/aarch64/dwcheck-program.o, which is still to be linked, from the same proofs.
 # The crates are proved by `rt ci`, side by side, on a copy without tests and wrong bodies. It keeps
 # what it has proved on this machine, so only what has changed is proved again, here and in
 # `make test`. If `make test` has just proved these very files, which the checksum in build/proved
 # says, its results are taken. The library is proved while it is built: `rt ci` builds no static
-# libraries. It is kept too, in ~/.cache/dwcheck/libraries. Its code gets unwind rows by
-# tools/clang_with_rows.sh. What its proof has checked is kept in build/checked for the other processor, for which the
-# library is checked again, since the processor is a part of the verdict: but all proofs are found there.
+# libraries. It is kept too, in ~/.cache/dwcheck/libraries, and so is the other processor's program.
+# Its code gets unwind rows by tools/clang_with_rows.sh. What its proof has checked is left in
+# build/checked for the other processor, for which the library is checked again, since the processor is
+# a part of the verdict: but each module of the proof is found there, and none is proved again. The
+# program's own crate is small, and proved once more.
 set -eu
 top=$(dirname "$(dirname "$(realpath "$0")")")
 cd "$top"
@@ -139,8 +141,8 @@ is_of_now() { # FILE CHECKSUM: whether the file has the checksum
     [ -f "$1" ] && [ "$(cat "$1")" = "$2" ]
 }
 
-archive_sum() { # a checksum of all that the library is made from
-    { sum && rt version && echo "$target" && cat tools/build.sh tools/clang_with_rows.sh; } | sha256sum | cut -d ' ' -f 1
+sum_for() { # NAME: a checksum of all that a file is made from
+    { sum && rt version && echo "$target $1" && cat tools/build.sh tools/clang_with_rows.sh; } | sha256sum | cut -d ' ' -f 1
 }
 
 begin() {
@@ -152,25 +154,31 @@ begin() {
 # Where libraries are kept on this machine, as `rt ci` keeps proofs: by a checksum of all that one is made from.
 kept=${XDG_CACHE_HOME:-$HOME/.cache}/dwcheck/libraries
 
-keep() { # FILE CHECKSUM: keeps a library, and the five that were used last besides
+keep() { # FILE CHECKSUM: keeps a file, and the eight that were used last besides
     mkdir -p "$kept" && cp "$1" "$kept/new-$$" && mv "$kept/new-$$" "$kept/$2" || true
-    ls -t "$kept" | tail -n +7 | (cd "$kept" && xargs -r rm -f)
+    ls -t "$kept" | tail -n +10 | (cd "$kept" && xargs -r rm -f)
 }
 
-archive() { # JOBS: builds the library over the crates in $work, unless that was done on this machine before
-    local now
-    now=$(archive_sum)
-    rm -f "$out/archive.sum"
+# Puts a file into the output's folder that a command makes in $work, unless it was made on this machine before.
+take_or_make() { # NAME COMMAND..
+    local name=$1 now
+    shift
+    now=$(sum_for "$name")
     if [ -f "$kept/$now" ]; then
-        echo "the library was proved and built on this machine before"
+        echo "$name was proved and built on this machine before"
         touch "$kept/$now"
-        put "$kept/$now" "$out/libdwcheck_c.a"
+        put "$kept/$now" "$out/$name"
     else
-        build_library "$work" "$1"
-        put "$work/libdwcheck_c.a" "$out/libdwcheck_c.a"
-        keep "$out/libdwcheck_c.a" "$now"
+        "$@"
+        put "$work/$name" "$out/$name"
+        keep "$out/$name" "$now"
     fi
-    echo "$now" > "$out/archive.sum"
+}
+
+archive() { # JOBS: builds the library over the crates in $work
+    rm -f "$out/archive.sum"
+    take_or_make libdwcheck_c.a build_library "$work" "$1"
+    sum_for libdwcheck_c.a > "$out/archive.sum"
 }
 
 build_archive() { # Proofs of other crates keep the other processors busy.
@@ -186,15 +194,14 @@ build() {
     else
         prove_copy "$work"
     fi
-    if ! { [ -f "$out/libdwcheck_c.a" ] && is_of_now "$out/archive.sum" "$(archive_sum)"; }; then
+    if ! { [ -f "$out/libdwcheck_c.a" ] && is_of_now "$out/archive.sum" "$(sum_for libdwcheck_c.a)"; }; then
         echo "proving and building dwcheck_c"
         archive "$(library_jobs)"
     fi
     if [ "$out" = build ]; then
         put "$work/crates/dwcheck/out/dwcheck" build/dwcheck
     else
-        build_program "$work" "$(library_jobs)"
-        put "$work/dwcheck-program.o" "$out/dwcheck-program.o"
+        take_or_make dwcheck-program.o build_program "$work" "$(library_jobs)"
     fi
 }
 

@@ -130,14 +130,17 @@ program() {
     [ "$(grep -c '^ok ' "$out/cases")" -gt 1000 ] && ! grep -q '^FAILED' "$out/cases"
 }
 
-# dwcheck-elf reads its own tables, and the C library's.
+# dwcheck-elf, which is compiled here without optimization, reads its own tables, and the C library's.
 elf_program() {
-    $emulator "$root" "$built/dwcheck-elf" check "$built/dwcheck-elf" "$root/usr/lib/aarch64-linux-gnu/libc.so.6" > "$out/checked" &&
+    local program=$built/cargo-test/aarch64-unknown-linux-gnu/debug/dwcheck-elf
+    (cd "$top/rust/dwcheck-command" && DWCHECK_LIB_DIR=$built CARGO_TARGET_DIR=$built/cargo-test CARGO_PROFILE_DEV_DEBUG=0 \
+        ../cross.sh build --quiet --bin dwcheck-elf) || return 1
+    $emulator "$root" "$program" check "$program" "$root/usr/lib/aarch64-linux-gnu/libc.so.6" > "$out/checked" &&
         [ "$(grep -c '\.eh_frame: accepted' "$out/checked")" = 2 ]
 }
 
 "$top/tools/packages.sh" install_arm64 && "$top/tools/arm64_root.sh" "$newer" trixie libc6 libgcc-s1 libstdc++6 libssl3t64 || exit 1
-(cd "$top" && make -s ARCH=aarch64) || exit 1
+(cd "$top" && make -s ARCH=aarch64 but_elf) || exit 1
 
 test_of "arm64: the shared libraries are marked as protected" are_protected
 test_of "arm64: the shared libraries export what those for x86-64 do" export_the_same

@@ -18,7 +18,7 @@ const RETURN_ADDRESS: u8 = 32;
 
 /// Where x0 is saved, in words above the stack pointer: after a `siginfo_t` of 128 bytes, the head of a `ucontext_t` of
 /// 176, and the address of a fault. x1 to x30, sp and pc follow.
-const FIRST_WORD: u8 = (128 + 176 + 8) / 8;
+const FIRST_WORD: u8 = 128 / 8 + 176 / 8 + 1;
 
 /// The section of a program that has this code, and no frame section.
 pub fn section<'data>(program: &Program<'_>) -> Option<FrameSection<'data>> {
@@ -37,7 +37,7 @@ pub fn section<'data>(program: &Program<'_>) -> Option<FrameSection<'data>> {
 /// The offset of the code in the bytes of a segment.
 fn place_in(bytes: &[u8]) -> Option<usize> {
     let aligned = bytes.chunks_exact(INSTRUCTION as usize).map(|word| word == &CODE[..INSTRUCTION as usize]);
-    let mut places = aligned.enumerate().filter(|(_, is_first)| *is_first);
+    let places = aligned.enumerate().filter(|(_, is_first)| *is_first);
     places.map(|(index, _)| index * INSTRUCTION as usize).find(|place| bytes[*place..].starts_with(&CODE))
 }
 
