@@ -16,7 +16,8 @@ pub enum Done {
     Refused,
     /// Something couldn't be read or checked. Standard error says what.
     Unread,
-    /// Another program was run, which ended with this status.
+    /// Another program was run, which ended with this status. Only `trace` runs one.
+    #[cfg_attr(not(all(target_os = "linux", target_arch = "x86_64")), allow(dead_code))]
     Status(u8),
 }
 
