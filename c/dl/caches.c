@@ -14,7 +14,7 @@ static uint64_t number_of_thread(void) { return (uint64_t)(uintptr_t)__builtin_t
 enum { PAGE = 4096 };
 
 /* Writes to each page of rows that no walk has used. A page that is read before it is written takes two page faults. */
-static void write_first(dwcheck_rows *rows) {
+static void write_first(dwcheck_dl_rows *rows) {
     volatile uint8_t *bytes = (volatile uint8_t *)rows;
     for (size_t at = 0; at < sizeof *rows; at += PAGE) bytes[at] = 0;
 }
