@@ -19,7 +19,7 @@ END
 test_of() { # NAME COMMAND..
     local name=$1
     shift
-    if timeout 300 "$@" > shown 2>&1; then
+    if "$@" > shown 2>&1; then
         echo "ok $name: $(tail -n 1 shown | cut -c 1-90)"
     else
         echo "FAILED $name"
@@ -64,14 +64,13 @@ core_of_threads() { # KIND
 
 through_handler() { # KIND: a core of a process that died in a handler
     core_of "handler-$1"
-    "$elf" stack --no-inline core > frames
+    "$elf" stack --no-inline --strict core > frames
     gdb_of -x frames.py "$tests/handler-$1" core
     same_as_gdb 15
 }
 
 # gdb stops the process first, so that both stop it where it waits.
 live() { # WORD..: a program that prints the frames of the process whose id comes after these words
-    "$tests/stack-plain" > /dev/null 2>&1
     sleep 1000 &
     local sleeper=$!
     sleep 1
@@ -81,24 +80,22 @@ live() { # WORD..: a program that prints the frames of the process whose id come
     same_as_gdb 5
 }
 
-thread_variables() { # KIND: those of both threads, as gdb prints them
+# Those of both threads have the values that the program has stored. gdb doesn't find them in a core file.
+thread_variables() { # KIND
     core_of "threads-$1"
-    "$elf" stack --vars core > shown_by_elf
-    gdb_of -ex 'thread apply all frame function use' -ex 'thread apply all -q frame apply all -q info locals' "$tests/threads-$1" core
-    grep -q '^own = 2$' gdb && grep -q '^tenfold = 20$' gdb &&
-        grep -q '\bown = 2\b' shown_by_elf && grep -q '\btenfold = 20\b' shown_by_elf || { cat shown_by_elf gdb; false; }
+    "$elf" stack --vars core > variables
+    grep -q '\bown = 2\b' variables && grep -q '\btenfold = 20\b' variables || { cat variables; false; }
 }
 
 # Samples of a program with their stacks: perf's and ours have `often` in as many.
 profiled() { # KIND
-    perf record -q -e cpu-clock -F 200 --call-graph dwarf -o perf.data "$tests/profiler-$1" > /dev/null 2>&1 || return 1
+    perf record -q -e cpu-clock -F 200 --call-graph dwarf -o perf.data "$tests/profiler-$1" > /dev/null || return 1
     "$elf" profile perf.data > profile || { tail -n 3 profile; return 1; }
     grep -q often profile && wc -l < profile
 }
 
 for kind in plain signed; do
     test_of "$kind: stacks are glibc's" "$tests/dl-$kind"
-    test_of "$kind: stacks with signed return addresses are glibc's" "$tests/dl_signed-$kind"
     test_of "$kind: walks from wherever a timer interrupts reach the start" "$tests/dl_interrupted-$kind" 5000
     test_of "$kind: the example stack beside gdb" compared stack-$kind 40
     test_of "$kind: the example crash beside gdb" compared crash-$kind 14
@@ -109,5 +106,6 @@ for kind in plain signed; do
     test_of "$kind: variables of threads are gdb's" thread_variables $kind
     test_of "$kind: dwcheck-elf profile of a recording of perf" profiled $kind
 done
+test_of "signed: stacks, also where a return address is in its register, are glibc's" "$tests/dl_signed-signed"
 test_of "dwcheck-elf stack of a process that runs beside gdb" live "$elf" stack --no-inline --pid
 test_of "dwcheck-elf checks the C library" "$elf" check /lib/aarch64-linux-gnu/libc.so.6
