@@ -130,12 +130,12 @@ program() {
     [ "$(grep -c '^ok ' "$out/cases")" -gt 1000 ] && ! grep -q '^FAILED' "$out/cases"
 }
 
-# dwcheck-elf, which is compiled here without optimization, reads its own tables, and the C library's.
+# dwcheck-elf, which is compiled here without optimization, reads the tables of dwcheck and of the C library.
 elf_program() {
     local program=$built/cargo-test/aarch64-unknown-linux-gnu/debug/dwcheck-elf
     (cd "$top/rust/dwcheck-command" && DWCHECK_LIB_DIR=$built CARGO_TARGET_DIR=$built/cargo-test CARGO_PROFILE_DEV_DEBUG=0 \
         ../cross.sh build --quiet --bin dwcheck-elf) || return 1
-    $emulator "$root" "$program" check "$program" "$root/usr/lib/aarch64-linux-gnu/libc.so.6" > "$out/checked" &&
+    $emulator "$root" "$program" check "$built/dwcheck" "$root/usr/lib/aarch64-linux-gnu/libc.so.6" > "$out/checked" &&
         [ "$(grep -c '\.eh_frame: accepted' "$out/checked")" = 2 ]
 }
 
