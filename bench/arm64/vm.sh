@@ -62,5 +62,5 @@ rm -rf "$folder/test" && mkdir -p "$folder/test"
 compile
 pack > "$folder/files"
 timeout $seconds qemu-system-aarch64 -M virt -cpu max,pauth-impdef=on,sve=${SVE:-off} -m 3G -smp 2 -nographic -no-reboot -nic none \
-    -kernel "$root"/boot/vmlinuz-* -initrd "$folder/files" -append "console=ttyAMA0 panic=-1 quiet" < /dev/null | tr -d '\r' | tee "$folder/log"
+    -kernel "$root"/boot/vmlinuz-* -initrd "$folder/files" -append "console=ttyAMA0 panic=-1 quiet" < /dev/null | sed -u 's/\r//g' | tee "$folder/log"
 grep -q '^END' "$folder/log" && ! grep -q '^FAILED' "$folder/log"

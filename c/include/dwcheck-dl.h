@@ -22,10 +22,11 @@
      asked about each page, in each walk. So stacks may overflow, and be those of sigaltstack, makecontext or other
      libraries.
    - A walk takes 1.0 KB of stack where all rows are kept, and 2.0 KB where one is looked up or has an expression, as
-     tools/stack_use.py has measured. A look-up takes 48 KB more: of the thread's own or an alternate stack, if that is
-     known to have room; else of one of six stacks of the library, so an alternate stack of 8 KB suffices. If walks
-     have all of them, and they stay in use like caches if siglongjmp leaves a walk, a stack that is known to be too
-     small ends the walk, and any other is used itself.
+     tools/stack_use.py has measured; on aarch64, 1.2 KB and 1.4 KB where one is looked up. A look-up takes 48 KB more, on
+     aarch64 54: of the thread's own or an alternate stack, if that is known to have room; else of one of six stacks of
+     the library, so an alternate stack of 8 KB suffices, and on aarch64, where the kernel takes more of it, one of 16. If
+     walks have all of them, and they stay in use like caches if siglongjmp leaves a walk, a stack that is known to be
+     too small ends the walk, and any other is used itself.
 
    To link: cc .. $(pkg-config --cflags --libs dwcheck-dl); or by CMake, dwcheck::dl or dwcheck::dl_shared. */
 #ifndef DWCHECK_DL_H

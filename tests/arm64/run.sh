@@ -166,6 +166,7 @@ test_of "arm64: a stack of a static program" linked -static
 test_of "arm64: a stack whose rows are in .debug_frame" linked -fno-asynchronous-unwind-tables -g
 test_of "arm64: the same with signed return addresses" linked -fno-asynchronous-unwind-tables -g -mbranch-protection=standard
 test_of "arm64: a stack over the shared libraries" shared
+test_of "arm64: the header says how much stack walks take" "$top/tools/stack_use.py" --aarch64
 test_of "arm64: the cases of the program dwcheck" program
 test_of "arm64: dwcheck-elf checks programs" elf_program
 exit $status
