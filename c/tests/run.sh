@@ -1,6 +1,6 @@
 #!/bin/bash
 # Builds the tests with the static library build/libdwcheck.a, or the one that LIBRARY names, and runs
-# them: those of readers.c, frozen.c, cursor.c, cache.c, dl.c, dl_modules.c, dl_left.c, own_rows.c, both.c and changed.c; those of
+# them: those of readers.c, frozen.c, cursor.c, cache.c, dl.c, dl_modules.c, dl_contexts.c, dl_left.c, own_rows.c, both.c and changed.c; those of
 # in_place.c, kept_rows.c and kept_rows_of_stacks.c, plainly, with sanitizers and under valgrind; those of
 # wrapper.cc, as C++17, as C++20 and over the module; and those of cases.c while allocations fail in turn,
 # with sanitizers, and under valgrind. Before that, the headers are compiled as C11, C17 and C++17; passing
@@ -360,6 +360,7 @@ test_of "stacks of dwcheck-dl are glibc's, while libraries come and go" dl_modul
 test_of "stacks of dwcheck-dl are glibc's, while libraries without build ids come and go" dl_modules -Wl,--build-id=none
 test_of "the same with TSan" dl_modules_checked -fsanitize=thread
 test_of "the same with ASan and UBSan" dl_modules_checked -fsanitize=address,undefined -fno-sanitize-recover=all
+test_of "walks from contexts of any registers end" dl dl_contexts
 test_of "walks that interrupt walks, or come after walks that were left" dl dl_left
 test_of "the handler of docs/OWN_STACKS.md prints gdb's stack" handler_of_page
 test_of "stacks over the shared library" shared

@@ -160,6 +160,7 @@ test_of "arm64: the same by the key B" in_both dl_signed -mbranch-protection=pac
 test_of "arm64: a stack with a shadow call stack" shadow
 test_of "arm64: walks from wherever a timer interrupts reach the start" c_test_with 1500 dl_interrupted
 test_of "arm64: the same with signed return addresses" c_test_with 1500 dl_interrupted -mbranch-protection=standard
+test_of "arm64: walks from contexts of any registers end" c_test dl_contexts
 test_of "arm64: stacks are glibc's, while libraries come and go" modules
 test_of "arm64: the same with signed return addresses" modules -mbranch-protection=standard
 test_of "arm64: a stack of a static program" linked -static
