@@ -32,13 +32,14 @@ pub use listed::Listed;
 pub use text::Lines;
 
 use crate::debug::variables::{Shape, Variables};
+use crate::elf::mapped::Bytes;
 use crate::process::core_file::{CoreFile, Files, Memory, Module, Thread};
 use crate::process::symbol_store::SymbolModule;
 use crate::process::without_row::Growth;
 use both_ends::Walked;
 use dwcheck::{Block, Registers};
 use lost::Lost;
-use std::cell::RefCell;
+use std::cell::{Cell, RefCell};
 use std::collections::{BTreeMap, BTreeSet, HashMap};
 use std::fmt;
 use std::path::{Path, PathBuf};
@@ -48,6 +49,10 @@ use walker::Walker;
 /// A sensible limit for [`Stacks::walk`]. A stack with more frames is most likely corrupt, or in a
 /// loop.
 pub const MOST_FRAMES: usize = 10_000;
+
+/// After how many walks the pages of the file with the stacks are given back. To do it after each would take the kernel
+/// longer than the walks, since it looks at all that was ever read of the file.
+const WALKS: usize = 32;
 
 /// A process that died: its memory and its modules.
 ///
@@ -67,6 +72,10 @@ pub const MOST_FRAMES: usize = 10_000;
 pub struct Stacks<'a> {
     core: &'a CoreFile<'a>,
     memory: Memory<'a>,
+    /// The file that has the memory of threads, if its pages are given back.
+    mapped: Option<Bytes>,
+    /// How many stacks were walked.
+    walked: Cell<usize>,
     /// All blocks of the memory, after a place for the stack of the thread that is walked: the first block that has an
     /// address is the one that is found fastest.
     blocks: RefCell<Vec<Block<'a>>>,
@@ -237,6 +246,8 @@ impl<'a> Stacks<'a> {
             core,
             blocks: RefCell::new(std::iter::once(Block::new(0, &[])).chain(blocks).collect()),
             memory,
+            mapped: None,
+            walked: Cell::new(0),
             lost: Lost::of(core, files),
             symbols: Vec::new(),
             unread: unread.collect(),
@@ -282,6 +293,22 @@ impl<'a> Stacks<'a> {
         }
     }
 
+    /// Says which file the core or the minidump is. Its pages are given back now and then: nearly all of them are
+    /// stacks, each of which is read for one thread alone.
+    pub fn use_mapped(&mut self, file: &Bytes) {
+        file.give_back(0..file.len());
+        self.mapped = Some(file.clone());
+    }
+
+    /// Counts a walk, and gives back the pages of the core or the minidump after some.
+    fn count_walk(&self) {
+        let walked = self.walked.get() + 1;
+        self.walked.set(walked);
+        if let Some(file) = self.mapped.as_ref().filter(|_| walked % WALKS == 0) {
+            file.give_back(0..file.len());
+        }
+    }
+
     /// The files that can't be read; after walks, the parts of their unwind tables that the walks
     /// needed but that can't be used; after frames were named, the files of debug information that
     /// can't be used; and, after variables were asked for, what has debug information that isn't read; each
@@ -309,6 +336,7 @@ impl<'a> Stacks<'a> {
     ///
     /// If the thread has no instruction pointer, or `dwcheck` gives an error.
     pub fn walk<'s>(&'s self, thread: &Thread, options: WalkOptions) -> Result<Stack<'s, 'a>, StackError> {
+        self.count_walk();
         let abi = self.core.abi();
         let registers: Registers = thread.registers.iter().copied().collect();
         let address = thread.register(abi.program_counter).ok_or(StackError::NoInstructionPointer)?;
