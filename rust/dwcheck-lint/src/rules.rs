@@ -65,11 +65,12 @@ pub fn is_exit_call(flow: &Flow<'_, '_>, state: &State) -> bool {
     matches!(state.get(register), Value::Number(number) if numbers.contains(&number))
 }
 
-/// Rule "row changes after the call": whether the row after a call says something else than the row
-/// of the call, and doesn't fit the state after the call. Then the call doesn't return, and other code
+/// Rule "row changes after the call": whether the row after a call, and after padding that follows it, says something else
+/// than the row of the call, and doesn't fit the state after the call. Then the call doesn't return, and other code
 /// follows it.
 pub fn row_changes_after_call(flow: &Flow<'_, '_>, call: u32, state: &State) -> bool {
-    let (before, after) = (flow.code.address(call), flow.code.address(flow.code.next(call)));
+    let next = flow.code.next(call);
+    let (before, after) = (flow.code.address(call), flow.code.address(is_only_padding(&flow.code, next).unwrap_or(next)));
     match (flow.row(before), flow.row(after)) {
         (Some(row), Some(next)) if row.begin != next.begin && !row.has_rules_of(next) => {
             !flow.disagreement(next, state, after).wrong.is_empty()
@@ -98,6 +99,8 @@ pub fn arguments_popped_by_rows(flow: &Flow<'_, '_>, call: u32) -> Option<i64> {
             return Some(if is_likely(popped) && has_same_rules(at) { popped } else { 0 });
         }
         match *flow.code.effect(at) {
+            // The call doesn't return.
+            Effect::Padding => return Some(0),
             Effect::Add { to, from, number } if to == machine.stack_pointer && from == to => {
                 let is_taken_back = offset(flow.code.next(at)) == Some(before) && number >= -MOST_TAKEN_BACK;
                 return Some(if is_likely(-number) && is_taken_back { -number } else { 0 });
@@ -106,6 +109,9 @@ pub fn arguments_popped_by_rows(flow: &Flow<'_, '_>, call: u32) -> Option<i64> {
             Effect::Pop { .. } | Effect::PopOther { .. } | Effect::PopFlags => return Some(0),
             effect if effect.written().contains(machine.stack_pointer) => return Some(0),
             _ => at = flow.code.next(at),
+        }
+        if flow.code.is_leader(at) {
+            return Some(0);
         }
     }
     Some(0)
