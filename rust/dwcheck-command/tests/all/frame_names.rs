@@ -248,10 +248,97 @@ int main(int argc, char **argv) { return jumps(argc) + 1; }
 const TAIL_CALLS: &str = "python
 frame = gdb.newest_frame()
 while frame is not None:
-    print('jumped' if frame.type() == gdb.TAILCALL_FRAME else 'frame', frame.name())
+    word = {gdb.TAILCALL_FRAME: 'jumped', gdb.INLINE_FRAME: 'inlined'}.get(frame.type(), 'frame')
+    print(word, frame.name())
     frame = frame.older()
 end
 ";
+
+/// A line of a frame as `frame NAME`, or `jumped NAME` if the function ended with a jump.
+fn shown_frame(line: &str) -> String {
+    let word = if line.ends_with(" tail call") { "jumped" } else { "frame" };
+    format!("{} {}", word, line.split([' ', '+', '(']).nth(2).unwrap())
+}
+
+/// Jumps in one unit and from it to another, by one way and by two, by a pointer, from an inlined function, and from a
+/// function that calls itself.
+const WAYS: [(&str, &str); 2] = [
+    (
+        "a.c",
+        "
+#define FUNCTION __attribute__((noipa)) int
+int other(int), last(int);
+FUNCTION left(int n) { return last(n + 1); }
+FUNCTION right(int n) { return last(n + 2); }
+FUNCTION either(int n) { return n & 1 ? left(n) : right(n); }
+FUNCTION one(int n) { return left(n * 2); }
+FUNCTION units(int n) { return other(n + 1); }
+static int (*volatile pointer)(int) = left;
+FUNCTION pointed(int n) { return pointer(n); }
+static inline __attribute__((always_inline)) int inner(int n) { return one(n - 1); }
+FUNCTION inlines(int n) { return inner(n + 3); }
+FUNCTION again(int n) { return n > 9 ? last(n) : n > 5 ? again(n + 1) : left(n); }
+FUNCTION by_one(int n) { return one(n) + 1; }
+FUNCTION by_either(int n) { return either(n) + 1; }
+FUNCTION by_units(int n) { return units(n) + 1; }
+FUNCTION by_pointed(int n) { return pointed(n) + 1; }
+FUNCTION by_inlines(int n) { return inlines(n) + 1; }
+FUNCTION by_again(int n) { return again(n) + 1; }
+int main(int argc, char **argv) {
+    switch (argv[1][0]) {
+    case 'o': return by_one(argc) + 1;
+    case 'e': return by_either(argc) + 1;
+    case 'u': return by_units(argc) + 1;
+    case 'p': return by_pointed(argc) + 1;
+    case 'i': return by_inlines(argc) + 1;
+    }
+    return by_again(argc) + 1;
+}
+",
+    ),
+    (
+        "b.c",
+        "
+#define FUNCTION __attribute__((noipa)) int
+FUNCTION last(int n) { if (n) __builtin_trap(); return n; }
+FUNCTION middle(int n) { return last(n + 1); }
+FUNCTION other(int n) { return middle(n + 1); }
+",
+    ),
+];
+
+/// Where call sites prove one way, the frames are gdb's. Of two ways, gdb may show what they have in common; here nothing
+/// is shown.
+#[test]
+fn tail_calls_that_call_sites_prove_are_frames_as_in_gdb() {
+    let folder = Folder::new("places-proved-tail-calls");
+    for (name, text) in WAYS {
+        folder.write(name, text);
+    }
+    folder.write("frames.gdb", TAIL_CALLS);
+    if !has("gdb") {
+        return;
+    }
+    for compiler in ["gcc -O2", "gcc -O2 -gdwarf-4", "clang -O2 -gdwarf-4"] {
+        folder.run(&format!("{} -g -fno-reorder-functions -no-pie a.c b.c -o program", compiler));
+        for way in ["one", "either", "units", "pointed", "inlines", "again"] {
+            folder.make_core(&format!("./program {}", way));
+            let shown = folder.run("gdb --batch -x frames.gdb program core 2> /dev/null | grep -E '^(jumped|frame) '");
+            let theirs: Vec<_> = shown.lines().take_while(|line| *line != "frame main").collect();
+            let ran = dwcheck_elf(&folder, "stack --no-source core");
+            let frames = ran.lines().into_iter().filter(|line| line.starts_with('#') && !line.ends_with(" inlined"));
+            let ours = frames.filter(|line| !line.contains(" inlined (")).map(shown_frame);
+            let ours: Vec<_> = ours.take_while(|line| line != "frame main").collect();
+            let by = format!("frame by_{}", way);
+            assert_eq!((ours.first(), ours.last()), (Some(&"frame last".to_string()), Some(&by)), "{}", ran.out);
+            match way {
+                "either" | "again" => assert_eq!(ours.len(), 2, "{} {}: {}", compiler, way, ran.out),
+                _ => assert_eq!(ours, theirs, "{} {}: {}", compiler, way, ran.out),
+            }
+            assert!(ours.len() > 2 || ["either", "again", "pointed"].contains(&way), "{} {}: {}", compiler, way, ran.out);
+        }
+    }
+}
 
 /// The function that was called and that has no frame is the outermost one of those that gdb says have jumped.
 #[test]
@@ -275,14 +362,19 @@ fn a_tail_call_is_marked_where_gdb_knows_one() {
         let names = ran.lines().into_iter().filter(|line| line.starts_with('#') || line.starts_with("tail call"));
         let name = |line: &str| match line.strip_prefix("tail call from ") {
             Some(from) => format!("jumped {}", from),
-            None => format!("frame {}", line.split([' ', '+']).nth(2).unwrap()),
+            None => shown_frame(line),
         };
-        let names: Vec<_> = names.map(name).take(5).collect();
-        let expected = ["frame last", "jumped first", "frame calls", "jumped jumps", "frame main"];
-        assert_eq!(names, expected, "{}{}", ran.out, ran.error);
+        let names: Vec<_> = names.map(name).take_while(|name| name != "frame main").collect();
         let json = document(&folder, "core");
         let from: Vec<_> = own_frames(&json).iter().map(|frame| frame["tail_call_from"].clone()).take(3).collect();
-        assert_eq!(from, [Value::from("first"), Value::from("jumps"), Value::Null], "{}", json);
+        if flags.contains("-g") {
+            assert_eq!(names, own, "{}{}", ran.out, ran.error);
+            assert_eq!(from, [Value::Null, Value::Null, Value::Null], "{}", json);
+        } else {
+            // Only the function is known that was called.
+            assert_eq!(names, ["frame last", "jumped first", "frame calls", "jumped jumps"], "{}{}", ran.out, ran.error);
+            assert_eq!(from, [Value::from("first"), Value::from("jumps"), Value::Null], "{}", json);
+        }
     }
 }
 

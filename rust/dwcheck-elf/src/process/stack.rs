@@ -31,7 +31,7 @@ pub use instruction::Instruction;
 pub use listed::Listed;
 pub use text::Lines;
 
-use crate::debug::variables::{Shape, Variables};
+use crate::debug::variables::{Shape, TailCall, Variables};
 use crate::elf::mapped::Bytes;
 use crate::process::core_file::{CoreFile, Files, Memory, Module, Thread};
 use crate::process::symbol_store::SymbolModule;
@@ -92,6 +92,9 @@ pub struct Stacks<'a> {
     names: RefCell<HashMap<usize, Names<'a>>>,
     /// The debug information of each module of whose frames the variables were asked for, by its index.
     variables: RefCell<HashMap<usize, Option<Variables<'a>>>>,
+    /// The functions that ended with a jump between a call and the function that it reached, by the module's index, the
+    /// address after the call, and one in the function.
+    tail_calls: RefCell<HashMap<(usize, u64, u64), Vec<TailCall>>>,
     /// The modules of which debug information is in files that aren't read, and what is said of one of these.
     split: RefCell<BTreeMap<PathBuf, String>>,
     /// The modules of which the debug information that they share with others isn't there.
@@ -115,6 +118,9 @@ pub struct WalkOptions {
     pub scans: bool,
     /// Whether to store the registers of each frame.
     pub keeps_registers: bool,
+    /// Whether to add the frames of functions that ended with a jump, where call sites of the debug information prove
+    /// them. They come beside those up to the limit.
+    pub finds_tail_calls: bool,
     /// How many of the outermost frames a stack has beside those up to the limit. If it is 0, the walk ends at the
     /// limit. Else it goes on, to at most 1,048,576 frames.
     pub outermost: usize,
@@ -213,7 +219,14 @@ pub enum StackError {
 
 impl Default for WalkOptions {
     fn default() -> Self {
-        WalkOptions { limit: MOST_FRAMES, is_strict: false, scans: false, keeps_registers: false, outermost: 0 }
+        WalkOptions {
+            limit: MOST_FRAMES,
+            is_strict: false,
+            scans: false,
+            keeps_registers: false,
+            finds_tail_calls: false,
+            outermost: 0,
+        }
     }
 }
 
@@ -256,6 +269,7 @@ impl<'a> Stacks<'a> {
             name_options: NameOptions::default(),
             names: RefCell::default(),
             variables: RefCell::default(),
+            tail_calls: RefCell::default(),
             split: RefCell::default(),
             unshared: RefCell::default(),
             shape: None,
@@ -356,7 +370,10 @@ impl<'a> Stacks<'a> {
             signed_bits: self.core.signed_bits(),
             growth: Growth::default(),
         };
-        let Walked { frames, left_out, stop } = walker.walk(address, registers).map_err(StackError::Dwcheck)?;
+        let walked = walker.walk(address, registers).map_err(StackError::Dwcheck)?;
+        drop(blocks);
+        let walked = if options.finds_tail_calls { self.with_tail_calls(walked) } else { walked };
+        let Walked { frames, left_out, stop } = walked;
         Ok(Stack { stacks: self, thread: u64::from(thread.id), frames, left_out, stop })
     }
 

@@ -149,6 +149,11 @@ fn template_number(class: &Die<'_, '_>, name: &str) -> Option<u64> {
     number_attribute(&child(class, gimli::DW_TAG_template_value_parameter, name)?, gimli::DW_AT_const_value)
 }
 
+/// For how many types a template is made that takes any number of them.
+pub(super) fn template_pack_length(class: &Die<'_, '_>, name: &str) -> Option<u64> {
+    Some(child(class, gimli::DW_TAG_GNU_template_parameter_pack, name)?.children().len() as u64)
+}
+
 /// A constant that is a member of a class.
 pub(super) fn constant_of_class(class: &Die<'_, '_>, name: &str) -> Option<u64> {
     let has_value = |die: &Die<'_, '_>, name: DwAt| die.attribute(name).is_some();
