@@ -17,6 +17,7 @@ import random
 import subprocess
 import sys
 import tempfile
+import threading
 import time
 from multiprocessing.pool import ThreadPool
 
@@ -56,9 +57,13 @@ def shards(program, words, folder, workers, count):
     and the store of all of them."""
     parts = [str(folder / f"{workers}-{number}-of-{count}") for number in range(1, count + 1)]
 
+    busy = {}
+
     def take(numbered):
         number, part = numbered
-        return Run([*words, "--jobs", "1", "--store", part, "--shard", f"{number}/{count}"]).end()
+        run = Run([*words, "--jobs", "1", "--store", part, "--shard", f"{number}/{count}"]).end()
+        busy[threading.get_ident()] = busy.get(threading.get_ident(), 0) + run.processors
+        return run
 
     begun = time.monotonic()
     with ThreadPool(workers) as pool:
@@ -67,7 +72,8 @@ def shards(program, words, folder, workers, count):
     processors = sum(run.processors for run in runs)
     print(f"{workers} workers, {count} shards: {clock:.2f} s, {processors:.2f} s of processors, a shard "
           f"{min(run.clock for run in runs):.2f} to {max(run.clock for run in runs):.2f} s and at most "
-          f"{max(run.megabytes for run in runs):.0f} MB", flush=True)
+          f"{max(run.megabytes for run in runs):.0f} MB; the busiest worker has "
+          f"{max(busy.values()) * workers / processors:.2f} of an equal part", flush=True)
     joined = str(folder / f"{workers}-of-{count}-joined")
     subprocess.run([program, "store", "merge", joined, *parts], check=True)
     return clock, processors, joined

@@ -19,7 +19,9 @@ pub fn unsaved_slots(machine: &Machine, rows: &[Row<'_>]) -> Vec<i64> {
     let mut offsets = Vec::new();
     for (_, rule) in rules {
         match rule {
-            Rule::Offset(offset) if *offset <= -machine.entry_offset - i64::from(machine.address_bytes) && !offsets.contains(offset) => {
+            Rule::Offset(offset)
+                if *offset <= -machine.entry_offset - i64::from(machine.address_bytes) && !offsets.contains(offset) =>
+            {
                 offsets.push(*offset);
             }
             _ => {}

@@ -70,7 +70,8 @@ pub fn is_exit_call(flow: &Flow<'_, '_>, state: &State) -> bool {
 /// follows it.
 pub fn row_changes_after_call(flow: &Flow<'_, '_>, call: u32, state: &State) -> bool {
     let next = flow.code.next(call);
-    let (before, after) = (flow.code.address(call), flow.code.address(is_only_padding(&flow.code, next).unwrap_or(next)));
+    let (before, after) =
+        (flow.code.address(call), flow.code.address(is_only_padding(&flow.code, next).unwrap_or(next)));
     match (flow.row(before), flow.row(after)) {
         (Some(row), Some(next)) if row.begin != next.begin && !row.has_rules_of(next) => {
             !flow.disagreement(next, state, after).wrong.is_empty()

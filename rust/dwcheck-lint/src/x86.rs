@@ -200,7 +200,8 @@ impl Processor {
             Mnemonic::And => {
                 let register = self.whole_register(first)?;
                 let mask = second.immediate();
-                Some(Effect::Align { to: register, from: register, mask }).filter(|_| mask.is_some() || register == self.stack_pointer)
+                Some(Effect::Align { to: register, from: register, mask })
+                    .filter(|_| mask.is_some() || register == self.stack_pointer)
             }
             Mnemonic::Xor => self.xor_with_itself(first, second),
             // Rule "hardened stack pointer": the bits that are set are zeros unless the processor speculates.
@@ -210,8 +211,12 @@ impl Processor {
             Mnemonic::ShiftLeft => self.calculation(first, Operation::ShiftLeft(shift_count(first, second)?)),
             Mnemonic::ShiftRight => self.calculation(first, Operation::ShiftRight(shift_count(first, second)?)),
             Mnemonic::MoveVector => self.move_vector_effect(first, second),
-            Mnemonic::Exchange => Some(Effect::Exchange { one: self.whole_register(first)?, other: self.whole_register(second)? }),
-            Mnemonic::MoveIf => Some(Effect::MayMove { to: self.whole_register(first)?, from: self.whole_register(second)? }),
+            Mnemonic::Exchange => {
+                Some(Effect::Exchange { one: self.whole_register(first)?, other: self.whole_register(second)? })
+            }
+            Mnemonic::MoveIf => {
+                Some(Effect::MayMove { to: self.whole_register(first)?, from: self.whole_register(second)? })
+            }
             Mnemonic::Compare => self.compare_effect(first, second),
             _ => self.stack_or_jump(found),
         }
@@ -246,7 +251,7 @@ impl Processor {
             Mnemonic::Return => {
                 let popped = operand.immediate().map_or(0, |bytes| bytes as u16);
                 Some(Effect::Return { popped })
-            },
+            }
             Mnemonic::Padding => Some(Effect::Padding),
             Mnemonic::Stop => Some(Effect::Stop),
             Mnemonic::System => Some(Effect::System { registers: self.system }),

@@ -64,7 +64,9 @@ pub static X86_64: Machine = Machine {
     exits: (Register(0), &[60, 231, 15]),
     stub: |_, _| None,
     decode: decode_x86_64,
-    text: |bytes, address| text_by_zydis(Mode::X86_64, bytes, address).unwrap_or_else(|| "(not an instruction)".to_string()),
+    text: |bytes, address| {
+        text_by_zydis(Mode::X86_64, bytes, address).unwrap_or_else(|| "(not an instruction)".to_string())
+    },
 };
 
 /// x86-64 as a processor that runs instructions of x86. A system call overwrites rax, rcx and r11.

@@ -139,8 +139,21 @@ pub(crate) struct Decoded {
 
 extern "C" {
     fn dwcheck_lint_zydis_start() -> c_int;
-    fn dwcheck_lint_zydis_decode(mode: c_int, bytes: *const u8, length: usize, address: u64, out: *mut Decoded) -> c_int;
-    fn dwcheck_lint_zydis_text(mode: c_int, bytes: *const u8, length: usize, address: u64, text: *mut c_char, size: usize) -> c_int;
+    fn dwcheck_lint_zydis_decode(
+        mode: c_int,
+        bytes: *const u8,
+        length: usize,
+        address: u64,
+        out: *mut Decoded,
+    ) -> c_int;
+    fn dwcheck_lint_zydis_text(
+        mode: c_int,
+        bytes: *const u8,
+        length: usize,
+        address: u64,
+        text: *mut c_char,
+        size: usize,
+    ) -> c_int;
 }
 
 impl Operand {
@@ -248,8 +261,9 @@ pub(crate) fn text_by_zydis(mode: Mode, bytes: &[u8], address: u64) -> Option<St
     let mut text = [0u8; 256];
     let length = bytes.len().min(LONGEST);
     // SAFETY: the bytes are only read, `text` is a local, and the formatter has been made.
-    let is_decoded =
-        unsafe { dwcheck_lint_zydis_text(mode as c_int, bytes.as_ptr(), length, address, text.as_mut_ptr().cast(), text.len()) };
+    let is_decoded = unsafe {
+        dwcheck_lint_zydis_text(mode as c_int, bytes.as_ptr(), length, address, text.as_mut_ptr().cast(), text.len())
+    };
     let end = text.iter().position(|byte| *byte == 0)?;
     Some(String::from_utf8_lossy(&text[..end]).into_owned()).filter(|_| is_decoded != 0)
 }

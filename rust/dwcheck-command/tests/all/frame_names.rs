@@ -2,7 +2,7 @@
 //! debug information.
 
 use crate::common::run::dwcheck_elf;
-use crate::common::{has, Folder};
+use crate::common::{has, hex, Folder};
 use serde_json::Value;
 
 const INLINES: &str = "
@@ -249,15 +249,22 @@ const TAIL_CALLS: &str = "python
 frame = gdb.newest_frame()
 while frame is not None:
     word = {gdb.TAILCALL_FRAME: 'jumped', gdb.INLINE_FRAME: 'inlined'}.get(frame.type(), 'frame')
-    print(word, frame.name())
+    print(word, frame.name(), hex(frame.pc()))
     frame = frame.older()
 end
 ";
 
 /// A line of a frame as `frame NAME`, or `jumped NAME` if the function ended with a jump.
 fn shown_frame(line: &str) -> String {
-    let word = if line.ends_with(" tail call") { "jumped" } else { "frame" };
-    format!("{} {}", word, line.split([' ', '+', '(']).nth(2).unwrap())
+    format!("{} {}", kind_of_frame(line), line.split([' ', '+', '(']).nth(2).unwrap())
+}
+
+fn kind_of_frame(line: &str) -> &'static str {
+    if line.ends_with(" tail call") {
+        "jumped"
+    } else {
+        "frame"
+    }
 }
 
 /// Jumps in one unit and from it to another, by one way and by two, by a pointer, from an inlined function, and from a
@@ -266,7 +273,11 @@ const WAYS: [(&str, &str); 2] = [
     (
         "a.c",
         "
+#ifdef __clang__
+#define FUNCTION __attribute__((noinline)) int
+#else
 #define FUNCTION __attribute__((noipa)) int
+#endif
 int other(int), last(int);
 FUNCTION left(int n) { return last(n + 1); }
 FUNCTION right(int n) { return last(n + 2); }
@@ -299,7 +310,11 @@ int main(int argc, char **argv) {
     (
         "b.c",
         "
+#ifdef __clang__
+#define FUNCTION __attribute__((noinline)) int
+#else
 #define FUNCTION __attribute__((noipa)) int
+#endif
 FUNCTION last(int n) { if (n) __builtin_trap(); return n; }
 FUNCTION middle(int n) { return last(n + 1); }
 FUNCTION other(int n) { return middle(n + 1); }
@@ -319,23 +334,37 @@ fn tail_calls_that_call_sites_prove_are_frames_as_in_gdb() {
     if !has("gdb") {
         return;
     }
-    for compiler in ["gcc -O2", "gcc -O2 -gdwarf-4", "clang -O2 -gdwarf-4"] {
-        folder.run(&format!("{} -g -fno-reorder-functions -no-pie a.c b.c -o program", compiler));
+    // The trap stays in the function that has it.
+    let gcc = "gcc -O2 -fno-reorder-blocks-and-partition";
+    for compiler in [gcc, &format!("{} -gdwarf-4", gcc), "clang -O2 -gdwarf-4"] {
+        folder.run(&format!("{} -g -no-pie a.c b.c -o program", compiler));
         for way in ["one", "either", "units", "pointed", "inlines", "again"] {
             folder.make_core(&format!("./program {}", way));
             let shown = folder.run("gdb --batch -x frames.gdb program core 2> /dev/null | grep -E '^(jumped|frame) '");
-            let theirs: Vec<_> = shown.lines().take_while(|line| *line != "frame main").collect();
+            let own = shown.lines().take_while(|line| !line.starts_with("frame main "));
+            // gdb names a frame that jumped after the function that is inlined there.
+            let words = own.map(|line| line.split(' ').collect::<Vec<_>>()).filter(|words| words[0] != "inlined");
+            let theirs: Vec<_> = words.map(|words| (words[0], hex(words[2]))).collect();
             let ran = dwcheck_elf(&folder, "stack --no-source core");
-            let frames = ran.lines().into_iter().filter(|line| line.starts_with('#') && !line.ends_with(" inlined"));
-            let ours = frames.filter(|line| !line.contains(" inlined (")).map(shown_frame);
-            let ours: Vec<_> = ours.take_while(|line| line != "frame main").collect();
-            let by = format!("frame by_{}", way);
-            assert_eq!((ours.first(), ours.last()), (Some(&"frame last".to_string()), Some(&by)), "{}", ran.out);
+            let frames = ran.lines().into_iter().filter(|line| line.starts_with('#') && !line.contains(" inlined ("));
+            let frames: Vec<_> = frames.take_while(|line| !line.contains(" main+")).collect();
+            let address = |line: &str| hex(line.split(' ').nth(1).unwrap());
+            let ours: Vec<_> = frames.iter().map(|line| (kind_of_frame(line), address(line))).collect();
+            let (first, last) = (frames[0], frames[frames.len() - 1]);
+            let is_whole = first.contains(" last+") && last.contains(&format!(" by_{}+", way));
+            assert!(is_whole, "{} {}: {}", compiler, way, ran.out);
             match way {
                 "either" | "again" => assert_eq!(ours.len(), 2, "{} {}: {}", compiler, way, ran.out),
                 _ => assert_eq!(ours, theirs, "{} {}: {}", compiler, way, ran.out),
             }
-            assert!(ours.len() > 2 || ["either", "again", "pointed"].contains(&way), "{} {}: {}", compiler, way, ran.out);
+            assert_eq!(
+                ours.len() > 2,
+                !["either", "again", "pointed"].contains(&way),
+                "{} {}: {}",
+                compiler,
+                way,
+                ran.out
+            );
         }
     }
 }
@@ -349,14 +378,17 @@ fn a_tail_call_is_marked_where_gdb_knows_one() {
     if !has("gdb") {
         return;
     }
-    for flags in ["-g", "", "-m32 -fno-pic -no-pie"] {
+    for (flags, is_bare) in [("", false), ("", true), ("-m32 -fno-pic -no-pie", false), ("-m32 -fPIE -pie", true)] {
         // The trap stays in the function that has it.
-        let flags = format!("-O2 -fno-reorder-blocks-and-partition {}", flags);
-        folder.run(&format!("gcc -g {} a.c -o program; gcc {0} a.c -o bare", flags));
+        folder.run(&format!("gcc -g -O2 -fno-reorder-blocks-and-partition {} a.c -o program", flags));
         folder.make_core("./program");
         make_root(&folder);
+        if is_bare {
+            folder.run("strip -g root$PWD/program");
+        }
         let shown = folder.run("gdb --batch -x frames.gdb program core 2> /dev/null | grep -E '^(jumped|frame) '");
-        let own: Vec<_> = shown.lines().take_while(|line| *line != "frame main").collect();
+        let own: Vec<_> = shown.lines().filter_map(|line| line.rsplit_once(' ')).map(|(frame, _)| frame).collect();
+        let own: Vec<_> = own.into_iter().take_while(|frame| *frame != "frame main").collect();
         assert_eq!(own, ["frame last", "jumped second", "jumped first", "frame calls", "jumped jumps"], "{}", shown);
         let ran = dwcheck_elf(&folder, "stack --root root --no-source core");
         let names = ran.lines().into_iter().filter(|line| line.starts_with('#') || line.starts_with("tail call"));
@@ -367,12 +399,18 @@ fn a_tail_call_is_marked_where_gdb_knows_one() {
         let names: Vec<_> = names.map(name).take_while(|name| name != "frame main").collect();
         let json = document(&folder, "core");
         let from: Vec<_> = own_frames(&json).iter().map(|frame| frame["tail_call_from"].clone()).take(3).collect();
-        if flags.contains("-g") {
+        if !is_bare {
             assert_eq!(names, own, "{}{}", ran.out, ran.error);
             assert_eq!(from, [Value::Null, Value::Null, Value::Null], "{}", json);
         } else {
             // Only the function is known that was called.
-            assert_eq!(names, ["frame last", "jumped first", "frame calls", "jumped jumps"], "{}{}", ran.out, ran.error);
+            assert_eq!(
+                names,
+                ["frame last", "jumped first", "frame calls", "jumped jumps"],
+                "{}{}",
+                ran.out,
+                ran.error
+            );
             assert_eq!(from, [Value::from("first"), Value::from("jumps"), Value::Null], "{}", json);
         }
     }

@@ -326,6 +326,10 @@ fn functions_that_pop_by_gcc_and_clang() {
     }
     if has("clang") {
         let found = found(&folder, "clang -m32 -w -O0 -fomit-frame-pointer a.c -o out");
-        assert!(!found.kinds.is_empty() && found.kinds.iter().all(|kind| kind == "wrong row at a block"), "{:?}", found.kinds);
+        assert!(
+            !found.kinds.is_empty() && found.kinds.iter().all(|kind| kind == "wrong row at a block"),
+            "{:?}",
+            found.kinds
+        );
     }
 }

@@ -90,9 +90,8 @@ impl<'a> Contexts<'a> {
     /// All units, without what files share, and the addresses of each, by its index.
     pub fn all_units(&self) -> Option<(Units<'a>, Vec<(Range<u64>, usize)>)> {
         let units = Units::of_headers(load(&self.sections)?, self.info.headers.clone());
-        let indexed = |(range, unit): &(Range<u64>, usize)| {
-            Some((range.clone(), units.index_of(DebugInfoOffset(*unit).into())?))
-        };
+        let indexed =
+            |(range, unit): &(Range<u64>, usize)| Some((range.clone(), units.index_of(DebugInfoOffset(*unit).into())?));
         let ranges = self.covers.ranges().iter().filter_map(indexed).collect();
         Some((units, ranges))
     }

@@ -116,7 +116,8 @@ impl<'v, 'a, N: Fn(&str) -> Option<u64>> Search<'v, 'a, N> {
             let name = name.and_then(|(holder, value)| holder.string(value)).ok_or(Unproved)?;
             return (self.named)(&name).map(|address| vec![address]).ok_or(Unproved);
         }
-        let parts: Vec<u64> = function.ranges().map_or_else(Vec::new, ranges_of).iter().map(|part| part.start).collect();
+        let parts: Vec<u64> =
+            function.ranges().map_or_else(Vec::new, ranges_of).iter().map(|part| part.start).collect();
         Some(parts).filter(|parts| !parts.is_empty()).ok_or(Unproved)
     }
 

@@ -69,7 +69,8 @@ impl<'v, 'a> Locator<'v, 'a> {
         if !is_whole || distance % pointer != 0 {
             return None;
         }
-        let inside = |spot: &Spot| spot.current.checked_sub(spot.first).filter(|past| *past < length && past % size == 0);
+        let inside =
+            |spot: &Spot| spot.current.checked_sub(spot.first).filter(|past| *past < length && past % size == 0);
         let (skipped, past) = (inside(&begin)? / size, inside(&end)? / size);
         let in_block = length / size;
         let count = (distance / pointer).checked_mul(in_block)?.checked_add(past)?.checked_sub(skipped)?;
@@ -105,7 +106,11 @@ impl<'v, 'a> Locator<'v, 'a> {
             Extent::Count(count) => word(count)?,
             Extent::End(end) => {
                 let end = word(end).filter(|end| *end < room)?;
-                if end >= begin { end - begin } else { room - begin + end }
+                if end >= begin {
+                    end - begin
+                } else {
+                    room - begin + end
+                }
             }
         };
         if count > room || begin >= room && count > 0 {

@@ -149,9 +149,14 @@ fn template_number(class: &Die<'_, '_>, name: &str) -> Option<u64> {
     number_attribute(&child(class, gimli::DW_TAG_template_value_parameter, name)?, gimli::DW_AT_const_value)
 }
 
-/// For how many types a template is made that takes any number of them.
-pub(super) fn template_pack_length(class: &Die<'_, '_>, name: &str) -> Option<u64> {
-    Some(child(class, gimli::DW_TAG_GNU_template_parameter_pack, name)?.children().len() as u64)
+/// The base of a class that has a name, without what its template is made for.
+pub(super) fn base_with_name<'v, 'a>(class: &Die<'v, 'a>, name: &str) -> Option<Die<'v, 'a>> {
+    let bases = unqualified_type(class)?.children();
+    let bases = bases.iter().filter(|one| one.tag() == Some(gimli::DW_TAG_inheritance)).filter_map(type_of);
+    bases.filter_map(|base| unqualified_type(&base)).find(|base| {
+        let found = base.name();
+        found.map_or(false, |found| base_of_name(&found) == name)
+    })
 }
 
 /// A constant that is a member of a class.

@@ -3,7 +3,7 @@
 use super::associations::{Association, Entry, Walk};
 use super::cxx::Entries;
 use super::deques::{Blocks, InBlock};
-use super::fields::{base_of_name, named_type, target_of, template_pack_length, template_type, Field};
+use super::fields::{base_of_name, base_with_name, named_type, target_of, template_type, Field};
 use super::owners::{Choice, Counts, Optional, Owner, Target, MAX_CHOICES};
 use super::sequences::{Bits, Length, Room, Row, Text};
 use super::Layout;
@@ -101,11 +101,13 @@ pub(super) fn shared_ptr<'v, 'a>(whole: &Field<'v, 'a>) -> Option<Layout<'v, 'a>
     Some(Layout::Owner(Owner { target, counts: Some(counts) }))
 }
 
-/// `std::tuple`: each element is in a base that is made for its index.
+/// `std::tuple`: each element is in a base that is made for its index. The bases of bases say how many there are.
 pub(super) fn tuple<'v, 'a>(whole: &Field<'v, 'a>) -> Option<Layout<'v, 'a>> {
-    let count = template_pack_length(&whole.kind, "_Elements")?;
+    let rest = |class: &Die<'v, 'a>| base_with_name(class, "_Tuple_impl");
+    let count = std::iter::successors(rest(&whole.kind), rest).take(MAX_CHOICES).count() as u64;
     let elements = (0..count).map(|index| whole.member_of_base(index, "_M_head_impl"));
-    Some(Layout::Fields(elements.collect::<Option<_>>()?))
+    let elements: Vec<_> = elements.collect::<Option<_>>()?;
+    (!elements.is_empty()).then_some(Layout::Fields(elements))
 }
 
 /// `std::list`: a ring of nodes, which the list itself closes.
