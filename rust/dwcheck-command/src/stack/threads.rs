@@ -77,8 +77,7 @@ impl<'r, 'a> Report<'r, 'a> {
             is_strict: self.arguments.strict,
             scans: self.arguments.scan,
             keeps_registers: self.arguments.registers || self.arguments.vars,
-            // To read debug information takes memory, of which there is little while the kernel holds the process.
-            finds_tail_calls: self.crash.is_none(),
+            finds_tail_calls: true,
             outermost: if self.overflowed == Some(thread.id) { OUTERMOST } else { 0 },
         };
         self.stacks.walk(thread, options).map_err(|error| Failure::File(format!("thread {}: {}", thread.id, error)))
