@@ -77,7 +77,10 @@ impl<'a> CallSites<'a> {
     }
 }
 
-impl<'v, 'a, N: Fn(&str) -> Option<u64>> Search<'v, 'a, N> {
+impl<'v, 'a, N> Search<'v, 'a, N>
+where
+    N: Fn(&str) -> Option<u64>,
+{
     /// Follows a call or a jump to its target, and the jumps of that function to theirs.
     fn follow(&mut self, site: &Die<'v, 'a>) -> Result<(), Unproved> {
         self.left = self.left.checked_sub(1).ok_or(Unproved)?;
