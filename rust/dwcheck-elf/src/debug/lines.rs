@@ -3,12 +3,11 @@
 
 mod contexts;
 
-use crate::debug::debug_info::{file_path, Slice, Units};
+use crate::debug::debug_info::{file_path, Slice, UnitsByAddress};
 use crate::elf::debug_files::DebugFiles;
 use crate::elf::program::Program;
 use contexts::{Context, Contexts};
 use gimli::{AttributeValue, UnitOffset};
-use std::ops::Range;
 
 /// A line of a source file.
 #[derive(Clone, Debug, PartialEq, Eq)]
@@ -56,8 +55,8 @@ impl<'a> Lines<'a> {
         self.0.find(address, functions).unwrap_or_default()
     }
 
-    /// All units, without what files share, and the addresses of each, by its index.
-    pub(crate) fn all_units(&self) -> Option<(Units<'a>, Vec<(Range<u64>, usize)>)> {
+    /// All units, without what files share.
+    pub(crate) fn all_units(&self) -> Option<UnitsByAddress<'a>> {
         self.0.all_units()
     }
 

@@ -1,7 +1,7 @@
 //! The debug information of a program, as `addr2line` takes it: a unit at a time, or all units where one refers to
 //! others. All units of a large library would take much more memory than those that a stack needs.
 
-use crate::debug::debug_info::{Slice, Units};
+use crate::debug::debug_info::{Slice, Units, UnitsByAddress};
 use crate::debug::inlined::{Covers, Info};
 use crate::elf::compressed::SectionBytes;
 use crate::elf::debug_files::DebugFiles;
@@ -87,13 +87,13 @@ impl<'a> Contexts<'a> {
         Some(Contexts { sections, shared, info, file, covers, units, whole })
     }
 
-    /// All units, without what files share, and the addresses of each, by its index.
-    pub fn all_units(&self) -> Option<(Units<'a>, Vec<(Range<u64>, usize)>)> {
+    /// All units, without what files share.
+    pub fn all_units(&self) -> Option<UnitsByAddress<'a>> {
         let units = Units::of_headers(load(&self.sections)?, self.info.headers.clone());
         let indexed =
             |(range, unit): &(Range<u64>, usize)| Some((range.clone(), units.index_of(DebugInfoOffset(*unit).into())?));
         let ranges = self.covers.ranges().iter().filter_map(indexed).collect();
-        Some((units, ranges))
+        Some(UnitsByAddress { units, ranges })
     }
 
     /// Gives back the memory of what was read of the file that has `.debug_info`.

@@ -4,9 +4,8 @@
 use super::call_sites::{call_site_returning_to, return_address_of_site};
 use super::functions::{begin_of, FunctionIndex};
 use super::scopes::die_id;
-use crate::debug::debug_info::{ranges_of, Die, Units};
+use crate::debug::debug_info::{ranges_of, Die, Units, UnitsByAddress};
 use gimli::DwAt;
-use std::ops::Range;
 use std::rc::Rc;
 
 /// The most call sites that are followed. More of them are hardly one way.
@@ -49,8 +48,8 @@ struct Search<'v, 'a, N> {
 }
 
 impl<'a> CallSites<'a> {
-    /// Those of units, each of which is named by its index, and has ranges of addresses.
-    pub(crate) fn of(units: Units<'a>, ranges: Vec<(Range<u64>, usize)>) -> Self {
+    /// Those of units.
+    pub(crate) fn of(UnitsByAddress { units, ranges }: UnitsByAddress<'a>) -> Self {
         CallSites { units, functions: FunctionIndex::of_ranges(ranges) }
     }
 

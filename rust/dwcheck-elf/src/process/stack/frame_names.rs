@@ -257,9 +257,9 @@ impl<'a> Names<'a> {
             Debug::Lines(lines) => lines,
             _ => return Vec::new(),
         };
-        let found = lines.all_units().map(|(units, ranges)| {
-            CallSites::of(units, ranges).tail_calls(return_address, reached, |name| self.address_of(name))
-        });
+        let named = |name: &str| self.address_of(name);
+        let sites = lines.all_units().map(CallSites::of);
+        let found = sites.map(|sites| sites.tail_calls(return_address, reached, named));
         lines.give_back();
         found.unwrap_or_default()
     }
