@@ -9,7 +9,8 @@
 the same, or dwcheck-elf has more frames than LLDB, which has the first of them, or they differ; those that differ are
 shown. `time` has LLDB write a minidump of a stripped program with N threads (200), each of which waits in a C library's
 function that calls one of the program's, and prints how long both take, beyond the start of LLDB, and the memory of
-dwcheck-elf. This needs gcc and lldb-19.
+dwcheck-elf: all of it, what it has allocated and written to, and pages of files, which are its own code, its libraries,
+the dump and the dump's modules. This needs gcc and lldb-19.
 """
 import argparse
 import os
@@ -52,7 +53,8 @@ def threads(text, is_lldb):
             found.append(frames)
         shown = re.match(r"[* ]+frame #\d+: (0x[0-9a-f]+)", line) if is_lldb else re.match(r"#\d+ (0x[0-9a-f]+)", line)
         if shown and frames is not None:
-            is_counted = not is_outer if is_lldb else " inlined" not in line
+            # Functions that ended with a jump are frames here if call sites prove them.
+            is_counted = not is_outer if is_lldb else " inlined" not in line and not line.endswith(" tail call")
             is_outer = is_lldb and " [inlined] " in line
             if is_counted:
                 frames.append(int(shown[1], 16))
@@ -115,19 +117,20 @@ def seconds(words, runs):
 
 
 def memory(words):
-    """The most memory that a run takes, in KB. What `getrusage` says counts this script's memory, too."""
+    """The most memory that a run takes, in KB: all of it, what is its own, and what is pages of files. What `getrusage`
+    says counts this script's memory, too."""
     process = subprocess.Popen(words, stdout=subprocess.DEVNULL)
-    most = 0
+    most = {"VmHWM": 0, "RssAnon": 0, "RssFile": 0}
     while process.poll() is None:
         try:
             with open(f"/proc/{process.pid}/status", encoding="ascii") as status:
-                found = re.search(r"VmHWM:\s+(\d+)", status.read())
+                found = dict(re.findall(r"^(\w+):\s+(\d+) kB$", status.read(), re.MULTILINE))
         except OSError:
             break
-        most = max(most, int(found[1]) if found else 0)
-        time.sleep(0.001)
+        most = {name: max(kept, int(found.get(name, 0))) for name, kept in most.items()}
+        time.sleep(0.0005)
     process.wait()
-    return most
+    return most.values()
 
 
 def times(program, count, runs):
@@ -143,7 +146,12 @@ def times(program, count, runs):
         ours = seconds([program, "stack", dump], runs)
         size = os.path.getsize(dump)
         print(f"threads {count + 1} bytes {size} dwcheck-elf {ours:.3f} s, LLDB {theirs:.3f} s, its start {start:.3f} s")
-        print(f"ratio {ours / max(theirs - start, 1e-9):.3f} memory {memory([program, 'stack', dump])} KB")
+        print(f"ratio {ours / max(theirs - start, 1e-9):.3f}")
+        whole, own, of_files = memory([program, "stack", dump])
+        # It ends so soon that not each run of it is seen.
+        least = max(max(memory([program, "--help"])) for _ in range(20))
+        print(f"memory {whole} KB, {whole * 1024 / size:.2f} times the dump: at most {own} KB of its own and {of_files} KB of "
+              f"files; --help takes {least} KB", flush=True)
         return compare(program, [dump], [])
 
 

@@ -2,12 +2,13 @@
 """Measures runs with a store: how long a second run takes, what several workers take, and what is left of workers that
 are killed.
 
-    bench/elf/stores.py DWCHECK_ELF PATH [--command survey] [--workers 4] [--kills 100]
+    bench/elf/stores.py DWCHECK_ELF PATH [--command survey] [--workers 4] [--shards-of-each 1 16] [--kills 100]
 
-The second run takes what the store has. N workers take a shard each, with one thread and a store of their own; the
-stores are then joined, and have to give the export of one whole run. Then workers on one store are killed at random
-moments, and after a last run that isn't killed, its export has to be the same, too. Seconds of processors don't depend
-on what else the machine does, as those of the clock do.
+The second run takes what the store has. N workers take shards in turn, with one thread, and a store for each shard, as
+examples/archive does: as many shards as there are workers, and then 16 times as many. The stores are then joined, and
+have to give the export of one whole run. Then workers on one store are killed at random moments, and after a last run
+that isn't killed, its export has to be the same, too. Seconds of processors don't depend on what else the machine does,
+as those of the clock do.
 """
 import argparse
 import os
@@ -16,7 +17,9 @@ import random
 import subprocess
 import sys
 import tempfile
+import threading
 import time
+from multiprocessing.pool import ThreadPool
 
 
 class Run:
@@ -49,18 +52,29 @@ def second_run(words, store):
           f"{runs[1].processors / runs[0].processors:.4f} of processors", flush=True)
 
 
-def shards(program, words, folder, count):
-    """Runs a worker for each shard. Returns the seconds of the clock, and the store of all of them."""
-    parts = [str(folder / f"{count}-{number}") for number in range(1, count + 1)]
+def shards(program, words, folder, workers, count):
+    """Runs some workers at a time, which take the shards in turn. Returns the seconds of the clock and of processors,
+    and the store of all of them."""
+    parts = [str(folder / f"{workers}-{number}-of-{count}") for number in range(1, count + 1)]
+
+    busy = {}
+
+    def take(numbered):
+        number, part = numbered
+        run = Run([*words, "--jobs", "1", "--store", part, "--shard", f"{number}/{count}"]).end()
+        busy[threading.get_ident()] = busy.get(threading.get_ident(), 0) + run.processors
+        return run
+
     begun = time.monotonic()
-    runs = [Run([*words, "--jobs", "1", "--store", part, "--shard", f"{number}/{count}"])
-            for number, part in enumerate(parts, 1)]
-    runs = [run.end() for run in runs]
+    with ThreadPool(workers) as pool:
+        runs = pool.map(take, enumerate(parts, 1), chunksize=1)
     clock = time.monotonic() - begun
     processors = sum(run.processors for run in runs)
-    print(f"{count} workers: {clock:.2f} s, {processors:.2f} s of processors, "
-          f"at most {max(run.megabytes for run in runs):.0f} MB each", flush=True)
-    joined = str(folder / f"{count}-joined")
+    print(f"{workers} workers, {count} shards: {clock:.2f} s, {processors:.2f} s of processors, a shard "
+          f"{min(run.clock for run in runs):.2f} to {max(run.clock for run in runs):.2f} s and at most "
+          f"{max(run.megabytes for run in runs):.0f} MB; the busiest worker has "
+          f"{max(busy.values()) * workers / processors:.2f} of an equal part", flush=True)
+    joined = str(folder / f"{workers}-of-{count}-joined")
     subprocess.run([program, "store", "merge", joined, *parts], check=True)
     return clock, processors, joined
 
@@ -85,6 +99,7 @@ def main():
     parser.add_argument("path")
     parser.add_argument("--command", default="lint")
     parser.add_argument("--workers", type=int, default=os.cpu_count())
+    parser.add_argument("--shards-of-each", type=int, nargs="+", default=[1, 16])
     parser.add_argument("--kills", type=int, default=100)
     arguments = parser.parse_args()
     program, words = arguments.program, [arguments.program, arguments.command, arguments.path]
@@ -95,12 +110,12 @@ def main():
         second_run(words, whole)
         expected = export(program, whole)
         print(f"export: {len(expected)} bytes, {len(expected.splitlines())} answers", flush=True)
-        one, one_processors, joined = shards(program, words, folder, 1)
+        one, one_processors, joined = shards(program, words, folder, 1, 1)
         wrong += ["one worker's export"] * (export(program, joined) != expected)
-        if arguments.workers > 1:
-            many, many_processors, joined = shards(program, words, folder, arguments.workers)
+        for each in arguments.shards_of_each if arguments.workers > 1 else []:
+            many, many_processors, joined = shards(program, words, folder, arguments.workers, arguments.workers * each)
             wrong += ["the workers' export"] * (export(program, joined) != expected)
-            print(f"rate of {arguments.workers} workers: {one / many:.2f} of one's by the clock; "
+            print(f"rate of {arguments.workers} workers with {each} shards for each: {one / many:.2f} of one's by the clock; "
                   f"{arguments.workers * one_processors / many_processors:.2f} if each had a processor of its own", flush=True)
         if arguments.kills:
             found, check = killed(program, words, str(folder / "killed"), arguments.kills, one / arguments.kills * 2)

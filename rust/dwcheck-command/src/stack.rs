@@ -59,6 +59,7 @@ fn stack_of_core(
     let is_used = opened.as_ref().map_or(false, |opened| files.use_program(&core, &opened.bytes));
     let symbols = SymbolFiles::find(&core, &files, &symbol_stores(arguments)?);
     let mut stacks = Stacks::of(&core, &files);
+    stacks.use_mapped(&bytes);
     stacks.use_symbols(&symbols);
     if let Some(opened) = &opened {
         stacks.add_program(&opened.path, &opened.bytes);

@@ -96,7 +96,7 @@ fn variables_of_frame(
     let thread = core.threads().iter().find(|thread| is_wanted(thread.id));
     let thread = thread.ok_or_else(|| no_thread(arguments.thread, core))?;
     let limit = arguments.frame.saturating_add(1 + MAX_CALLERS);
-    let options = WalkOptions { limit, keeps_registers: true, ..WalkOptions::default() };
+    let options = WalkOptions { limit, keeps_registers: true, finds_tail_calls: true, ..WalkOptions::default() };
     let stack = stacks.walk(thread, options).map_err(|error| Failure::File(error.to_string()))?;
     if arguments.frame >= stack.frames.len() {
         let count = stack.frames.len();

@@ -39,6 +39,7 @@ const CALLEE_SAVED: [Register; 19] = {
 /// aarch64 with the calling convention of Arm's AAPCS64.
 pub static AARCH64: Machine = Machine {
     number: abi::AARCH64.machine,
+    address_bytes: 8,
     names: &NAMES,
     followed: 40,
     // The lower halves of v8 to v15 have the DWARF numbers 72 to 79.
@@ -56,6 +57,7 @@ pub static AARCH64: Machine = Machine {
     // LLVM up to 14 writes such.
     has_rows_for_calls: true,
     changeable: Registers::of(&[0, 1, 2, 3, 4, 5, 6, 7, 8, 9, 10, 11, 12, 13, 14, 15, 16, 17, 18]),
+    callees_pop: false,
     call_writes: Registers::of(&[30]),
     entry_offset: 0,
     return_slot: None,
@@ -245,7 +247,7 @@ impl Word {
             0b000 => Effect::Jump { target },
             0b001 => Effect::Call { target },
             // With authentication, the register isn't named.
-            0b010 if matches!(self.bits(9, 5), 30 | 31) => Effect::Return,
+            0b010 if matches!(self.bits(9, 5), 30 | 31) => Effect::Return { popped: 0 },
             0b010 => Effect::Jump { target },
             _ => Effect::Stop,
         }

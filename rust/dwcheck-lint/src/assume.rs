@@ -8,9 +8,6 @@ use crate::stores::Stores;
 use crate::table::{Cfa, Fde, Row, Rule};
 use crate::value::{Base, Value};
 
-/// The number of bytes of a slot.
-const WORD: i64 = 8;
-
 /// How many slots are taken from rows at most. No function that a compiler writes has more.
 const MOST_RULES: usize = 20;
 
@@ -22,7 +19,9 @@ pub fn unsaved_slots(machine: &Machine, rows: &[Row<'_>]) -> Vec<i64> {
     let mut offsets = Vec::new();
     for (_, rule) in rules {
         match rule {
-            Rule::Offset(offset) if *offset <= -machine.entry_offset - WORD && !offsets.contains(offset) => {
+            Rule::Offset(offset)
+                if *offset <= -machine.entry_offset - i64::from(machine.address_bytes) && !offsets.contains(offset) =>
+            {
                 offsets.push(*offset);
             }
             _ => {}
@@ -37,14 +36,15 @@ pub fn unsaved_slots(machine: &Machine, rows: &[Row<'_>]) -> Vec<i64> {
 /// The state at the entry of a function that is called, with slots in which nothing is saved yet.
 pub fn state_at_entry(machine: &Machine, row: &Row<'_>, unsaved: &[i64]) -> State {
     let mut state = State::unknown(false);
-    unsaved.iter().for_each(|offset| state.put(Base::CFA, *offset, Value::Clobbered));
+    let bytes = machine.address_bytes;
+    unsaved.iter().for_each(|offset| state.put(Base::CFA, *offset, bytes, Value::Clobbered));
     for register in machine.followed() {
         let is_callee_saved = machine.callee_saved.contains(&register);
         state.set(register, if is_callee_saved { Value::Entry(register) } else { Value::Clobbered });
     }
     state.set(machine.stack_pointer, Value::from_cfa(-machine.entry_offset));
     match machine.return_slot {
-        Some(slot) => state.put(Base::CFA, slot, Value::Entry(machine.return_address)),
+        Some(slot) => state.put(Base::CFA, slot, bytes, Value::Entry(machine.return_address)),
         None => state.set(machine.return_address, Value::Entry(machine.return_address)),
     }
     // A function such as vfork begins with its return address in a register.
@@ -84,6 +84,10 @@ impl Assumption<'_> {
         (base, 0)
     }
 
+    fn put(&mut self, base: Base, offset: i64, value: Value) {
+        self.state.put(base, offset, self.machine.address_bytes, value);
+    }
+
     fn assume_cfa(&mut self, row: &Row<'_>, address: u64) {
         match row.cfa {
             Cfa::RegisterOffset { register, offset } => {
@@ -93,7 +97,7 @@ impl Assumption<'_> {
                 Some(found) if found.is_loaded => {
                     let (base, offset) = self.base_of(found.register);
                     let value = Value::from_cfa(found.added.wrapping_neg());
-                    self.state.put(base, offset.wrapping_add(found.offset), value);
+                    self.put(base, offset.wrapping_add(found.offset), value);
                 }
                 Some(found) => {
                     let distance = found.offset.wrapping_add(found.added);
@@ -126,12 +130,12 @@ impl Assumption<'_> {
                         self.state.set(register, value);
                     }
                 }
-                Some(Rule::Offset(offset)) => self.state.put(Base::CFA, offset, value),
+                Some(Rule::Offset(offset)) => self.put(Base::CFA, offset, value),
                 Some(Rule::Register(other)) => self.state.set(other, value),
                 Some(Rule::Expression(expression)) => {
                     if let Some(found) = simple_form(expression).filter(|found| !found.is_loaded) {
                         let (base, offset) = self.base_of(found.register);
-                        self.state.put(base, offset.wrapping_add(found.offset).wrapping_add(found.added), value);
+                        self.put(base, offset.wrapping_add(found.offset).wrapping_add(found.added), value);
                     }
                 }
                 Some(Rule::Undefined | Rule::ValOffset(_) | Rule::ValExpression(_) | Rule::Architectural) => {}

@@ -65,6 +65,7 @@ pub struct Callees {
     left: usize,
     never_returns: FxHashMap<u64, bool>,
     written: FxHashMap<u64, Registers>,
+    popped: FxHashMap<u64, Option<u16>>,
 }
 
 /// What to do after an instruction of a callee.
@@ -123,7 +124,7 @@ impl Callees {
             Effect::Jump { target: target @ Target::Pointer(_) } if callees.target_never_returns(module, target, 0) => {
                 Next::End
             }
-            Effect::Return | Effect::Invalid | Effect::Jump { .. } => {
+            Effect::Return { .. } | Effect::Invalid | Effect::Jump { .. } => {
                 returns = true;
                 Next::Known
             }
@@ -134,6 +135,27 @@ impl Callees {
         let never_returns = was_read && !returns;
         self.never_returns.insert(address, never_returns);
         never_returns
+    }
+
+    /// Rule "arguments that the callee pops": how many bytes of arguments the code at an address removes from the stack
+    /// when it returns. `None` if that isn't known.
+    pub fn popped(&mut self, module: &Module<'_>, address: u64) -> Option<u16> {
+        if let Some(known) = self.popped.get(&address) {
+            return *known;
+        }
+        let mut found = None;
+        read_callee(self, module, address, |_, instruction| match instruction.effect {
+            Effect::Return { popped } => {
+                found = Some(popped);
+                Next::Known
+            }
+            Effect::Jump { target: Target::Code(target) } => Next::At(target),
+            Effect::JumpIf { target, .. } => Next::On(Some(target)),
+            Effect::Jump { .. } | Effect::Stop | Effect::Invalid => Next::End,
+            _ => Next::On(None),
+        });
+        self.popped.insert(address, found);
+        found
     }
 
     /// Rule "registers that the callee leaves alone": which registers that a function may change are
@@ -155,7 +177,7 @@ impl Callees {
         let mut written = Registers::NONE;
         let was_read = read_callee(self, module, address, |callees, instruction| {
             let next = match instruction.effect {
-                Effect::Return | Effect::Stop => Next::End,
+                Effect::Return { .. } | Effect::Stop => Next::End,
                 Effect::Jump { target: Target::Code(target) } => Next::At(target),
                 Effect::JumpIf { target, .. } => Next::On(Some(target)),
                 Effect::Call { target: Target::Code(target) } => {

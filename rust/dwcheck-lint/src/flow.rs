@@ -10,7 +10,7 @@ use crate::instruction::Effect;
 use crate::judge::{why_unjudged, Judge, Said, Verdict};
 use crate::module::Module;
 use crate::register::Registers;
-use crate::rules::{has_rows_for_calls, is_only_padding};
+use crate::rules::{begins_with_padding, has_rows_for_calls, is_only_padding};
 use crate::state::State;
 use crate::stores::Stores;
 use crate::table::{row_at, Cfa, Fde, Row};
@@ -184,8 +184,7 @@ impl<'m, 'c> Flow<'m, 'c> {
             self.region = 0;
             self.has_new_leader = false;
             let start = self.start(brought);
-            // Rule "padding": GCC begins a cold part with a `nop` that nothing jumps to.
-            if !start.is_assumed || is_only_padding(&self.code, 0).is_none() {
+            if !begins_with_padding(self, &start) {
                 self.follow(&mut follow, 0, &start);
             }
             for (address, state) in brought.range(self.fde.begin..self.fde.end) {

@@ -105,12 +105,13 @@ impl<'m> Visitor<'m> for Follow {
 /// Whether the stack pointer is at the return address.
 pub fn is_at_return_address(flow: &Flow<'_, '_>, state: &State) -> bool {
     let machine = flow.module.machine;
-    state.get(machine.stack_pointer).cfa_offset() == Some(-machine.entry_offset)
+    !state.is_doubtful && state.get(machine.stack_pointer).cfa_offset() == Some(-machine.entry_offset)
 }
 
 /// How many returns with another stack pointer this is: 1 if its distance from the CFA is known.
 pub fn odd_return(flow: &Flow<'_, '_>, state: &State) -> u32 {
-    u32::from(state.get(flow.module.machine.stack_pointer).cfa_offset().is_some())
+    let offset = state.get(flow.module.machine.stack_pointer).cfa_offset();
+    u32::from(offset.is_some() && !state.is_doubtful)
 }
 
 /// The registers that hold something else where the function ends.

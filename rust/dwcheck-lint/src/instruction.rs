@@ -33,8 +33,8 @@ pub enum Target {
     Pointer(u64),
     /// What a register holds.
     Register(Register),
-    /// An entry of a table of addresses: at `offset` plus the base, if there is one, plus 8 times an
-    /// index.
+    /// An entry of a table of addresses: at `offset` plus the base, if there is one, plus an index times
+    /// the size of an address.
     Table {
         /// The register that has the table's address.
         base: Option<Register>,
@@ -56,7 +56,7 @@ pub enum Condition {
     Other,
 }
 
-/// The entries of a table of jumps. One of 8 bytes is an address. A shorter one, shifted to the left, is
+/// The entries of a table of jumps. One that is as long as an address may be one. Else it is, shifted to the left,
 /// the distance from an address in the code or from the table.
 #[derive(Clone, Copy, Debug, PartialEq, Eq)]
 pub struct Entry {
@@ -191,6 +191,8 @@ pub enum Effect {
     Push { from: Register },
     /// Pushes what is in memory.
     PushMemory { from: MemoryOperand },
+    /// Pushes a number, or an address in the program.
+    PushNumber { number: i64 },
     /// Pushes something that isn't followed.
     PushOther,
     /// Pushes the flags.
@@ -216,8 +218,8 @@ pub enum Effect {
     Jump { target: Target },
     /// Jumps if a condition holds.
     JumpIf { target: u64, condition: Condition },
-    /// Returns.
-    Return,
+    /// Returns, and then removes a number of bytes from the stack, which are arguments.
+    Return { popped: u16 },
     /// Ends the program, or traps.
     Stop,
     /// The bytes aren't an instruction that is known. If the length is 1, it isn't known how many bytes it has.
@@ -226,9 +228,16 @@ pub enum Effect {
 
 impl Entry {
     /// An address of 8 bytes.
-    pub const ADDRESS: Entry = Entry { bytes: 8, is_signed: false, shift: 0 };
+    pub const ADDRESS: Entry = Entry::address(8);
     /// A signed distance of 4 bytes.
     pub const DISTANCE: Entry = Entry { bytes: 4, is_signed: true, shift: 0 };
+}
+
+impl Entry {
+    /// An address of this many bytes.
+    pub const fn address(bytes: u8) -> Entry {
+        Entry { bytes, is_signed: false, shift: 0 }
+    }
 }
 
 impl Scale {
@@ -300,7 +309,7 @@ impl Effect {
 
     /// Whether the instruction after it isn't reached by going on from it.
     pub fn is_end(&self) -> bool {
-        matches!(self, Effect::Jump { .. } | Effect::Return | Effect::Stop | Effect::Invalid)
+        matches!(self, Effect::Jump { .. } | Effect::Return { .. } | Effect::Stop | Effect::Invalid)
     }
 
     /// Whether the next instruction may be in another block.
@@ -318,8 +327,8 @@ impl Effect {
 
     /// Whether it pushes, and perhaps more.
     pub fn is_push(&self) -> bool {
-        use Effect::{Enter, Push, PushFlags, PushMemory, PushOther};
-        matches!(self, Push { .. } | PushMemory { .. } | PushOther | PushFlags | Enter { .. })
+        use Effect::{Enter, Push, PushFlags, PushMemory, PushNumber, PushOther};
+        matches!(self, Push { .. } | PushMemory { .. } | PushNumber { .. } | PushOther | PushFlags | Enter { .. })
     }
 
     /// Whether it changes no value that is followed.

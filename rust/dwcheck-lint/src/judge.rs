@@ -199,7 +199,20 @@ impl Judge<'_> {
                 self.judge_registers(row, &context, &mut verdict);
             }
         }
+        if self.state.is_doubtful {
+            self.doubt(row, &mut verdict);
+        }
         verdict
+    }
+
+    /// Rule "arguments that the callee pops": what is wrong by the stack pointer isn't known if that may be above what is
+    /// known of it. Registers may have been popped by it.
+    fn doubt(&self, row: &Row<'_>, verdict: &mut Verdict) {
+        let pointer = self.machine.stack_pointer;
+        let is_by_other = matches!(row.cfa, Cfa::RegisterOffset { register, .. } if register != pointer);
+        let doubted = verdict.wrong.without(if is_by_other { Facts::CFA } else { Facts::NONE });
+        verdict.wrong = verdict.wrong.without(doubted);
+        verdict.unknown.add(doubted);
     }
 
     /// The CFA of a row.

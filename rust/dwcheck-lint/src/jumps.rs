@@ -36,7 +36,7 @@ pub fn jump_table_bound(code: &Code<'_>, jump: u32) -> Option<u64> {
         match code.effect(at) {
             Effect::JumpIf { .. } => has_condition = true,
             Effect::CompareNumber { number } if has_condition => return u64::try_from(*number).ok()?.checked_add(1),
-            Effect::Jump { .. } | Effect::Return | Effect::Call { .. } => return None,
+            Effect::Jump { .. } | Effect::Return { .. } | Effect::Call { .. } => return None,
             _ => {}
         }
     }
@@ -52,6 +52,7 @@ impl Table {
         let mut targets = Vec::new();
         for index in 0..self.bound.unwrap_or(MOST_ENTRIES).min(self.limit) {
             let place = self.address.wrapping_add(index.wrapping_mul(u64::from(self.entry.bytes)));
+            let place = place & module.machine.address_mask();
             let is_other = index > 0 && known.binary_search(&place).is_ok();
             let target = match self.target(module, place) {
                 Some(target) if !is_other => target,
@@ -76,6 +77,6 @@ impl Table {
             true => reader.signed(bytes).ok()?,
             false => reader.number(bytes).ok()?,
         };
-        Some(self.anchor.wrapping_add(entry << shift))
+        Some(self.anchor.wrapping_add(entry << shift) & module.machine.address_mask())
     }
 }

@@ -5,7 +5,7 @@
 //! the stack and the registers at each instruction, and compares it with the row there. What isn't
 //! known isn't judged. docs/LINT.md says how it decides.
 //!
-//! - [`x86_64`] and [`aarch64`] are decoders. They make an [`Effect`](instruction::Effect) of each
+//! - [`x86_64`], [`i386`] and [`aarch64`] are decoders. They make an [`Effect`](instruction::Effect) of each
 //!   instruction; nothing else knows any instruction by its bytes.
 //! - [`value`], [`state`], [`stores`] and [`step`] are what is known, and how instructions change it.
 //! - [`code`], [`walk`], [`flow`], [`jumps`], [`callees`], [`assume`] and [`crossing`] follow the flow.
@@ -32,6 +32,7 @@ pub mod finding;
 pub mod finding_text;
 pub mod flow;
 pub mod follow;
+pub mod i386;
 pub mod instruction;
 pub mod judge;
 pub mod judging;
@@ -52,5 +53,6 @@ pub mod table;
 pub mod value;
 pub mod verdicts;
 pub mod walk;
+mod x86;
 pub mod x86_64;
 mod zydis;

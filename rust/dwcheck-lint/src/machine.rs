@@ -7,6 +7,8 @@ use crate::register::{Register, Registers};
 pub struct Machine {
     /// The machine's number in ELF files (`e_machine`).
     pub number: u16,
+    /// How many bytes an address has, and so a slot of the stack.
+    pub address_bytes: u8,
     /// The names of its registers, by their numbers.
     pub names: &'static [&'static str],
     /// How many registers are followed, which are the first ones, at most [`MOST_FOLLOWED`].
@@ -30,6 +32,8 @@ pub struct Machine {
     pub has_rows_for_calls: bool,
     /// The registers that a function may change.
     pub changeable: Registers,
+    /// Whether functions may remove arguments from the stack that their callers have put there.
+    pub callees_pop: bool,
     /// The registers that the instruction of a call overwrites.
     pub call_writes: Registers,
     /// The CFA minus the stack pointer, where a function begins.
@@ -57,7 +61,7 @@ pub const MOST_CALLEE_SAVED: usize = 19;
 pub const MOST_FOLLOWED: usize = 40;
 
 /// All machines whose code is read.
-pub static MACHINES: [&Machine; 2] = [&crate::x86_64::X86_64, &crate::aarch64::AARCH64];
+pub static MACHINES: [&Machine; 3] = [&crate::x86_64::X86_64, &crate::i386::I386, &crate::aarch64::AARCH64];
 
 impl Machine {
     /// The machine with this number. `None` if its code isn't read.
@@ -68,6 +72,11 @@ impl Machine {
     /// The name of a register.
     pub fn name(&self, register: Register) -> &'static str {
         self.names.get(register.index()).copied().unwrap_or("?")
+    }
+
+    /// The bits of an address.
+    pub fn address_mask(&self) -> u64 {
+        u64::MAX >> (64 - 8 * u32::from(self.address_bytes.min(8)))
     }
 
     /// Whether the value of a register is followed.

@@ -15,6 +15,12 @@ use crate::value::Value;
 /// How many instructions the default of a switch is looked for in.
 const SWITCH: usize = 7;
 
+/// In how many instructions after a call rows are looked at that say what the call has removed from the stack.
+const FEW_AFTER_CALL: usize = 4;
+
+/// How many bytes that a call has removed are taken back by the subtraction after it, at most: four arguments.
+const MOST_TAKEN_BACK: i64 = 16;
+
 /// Rule "padding": where a run of padding ends that begins at an offset, if there is one. Nothing runs
 /// over padding that nothing jumps to; so the cold part of a function, which GCC may begin with a
 /// `nop`, isn't entered there.
@@ -27,6 +33,17 @@ pub fn is_only_padding(code: &Code<'_>, offset: u32) -> Option<u32> {
         }
     }
     Some(at).filter(|at| *at != offset)
+}
+
+/// Rule "padding": whether an FDE begins with padding that isn't run, with what is known at its first address: GCC begins
+/// a cold part with a `nop` that nothing jumps to, and in assembly the FDE may begin before the function's alignment,
+/// after which the row changes.
+pub fn begins_with_padding(flow: &Flow<'_, '_>, start: &State) -> bool {
+    let changes = |after: u32| match (flow.row(flow.code.address(0)), flow.row(flow.code.address(after))) {
+        (Some(first), Some(row)) => row.begin == flow.code.address(after) && !first.has_rules_of(row),
+        _ => false,
+    };
+    is_only_padding(&flow.code, 0).map_or(false, |after| start.is_assumed || changes(after))
 }
 
 /// Rule "data in code": whether there is no code at an offset, whose instruction does this, or none that can be
@@ -48,17 +65,57 @@ pub fn is_exit_call(flow: &Flow<'_, '_>, state: &State) -> bool {
     matches!(state.get(register), Value::Number(number) if numbers.contains(&number))
 }
 
-/// Rule "row changes after the call": whether the row after a call says something else than the row
-/// of the call, and doesn't fit the state after the call. Then the call doesn't return, and other code
+/// Rule "row changes after the call": whether the row after a call, and after padding that follows it, says something else
+/// than the row of the call, and doesn't fit the state after the call. Then the call doesn't return, and other code
 /// follows it.
 pub fn row_changes_after_call(flow: &Flow<'_, '_>, call: u32, state: &State) -> bool {
-    let (before, after) = (flow.code.address(call), flow.code.address(flow.code.next(call)));
+    let next = flow.code.next(call);
+    let (before, after) =
+        (flow.code.address(call), flow.code.address(is_only_padding(&flow.code, next).unwrap_or(next)));
     match (flow.row(before), flow.row(after)) {
         (Some(row), Some(next)) if row.begin != next.begin && !row.has_rules_of(next) => {
             !flow.disagreement(next, state, after).wrong.is_empty()
         }
         _ => false,
     }
+}
+
+/// Rule "arguments that the callee pops": how many bytes a call removes from the stack, by the rows after it: the first
+/// one with another offset from the stack pointer, or the one after a subtraction that takes the bytes back. `None` if the
+/// CFA isn't found by the stack pointer.
+pub fn arguments_popped_by_rows(flow: &Flow<'_, '_>, call: u32) -> Option<i64> {
+    let machine = flow.module.machine;
+    let row = |at| flow.row(flow.code.address(at));
+    let offset = |at| match row(at)?.cfa {
+        Cfa::RegisterOffset { register, offset } if register == machine.stack_pointer => Some(offset),
+        _ => None,
+    };
+    let has_same_rules = |at| row(at).map(|row| &row.rules) == row(call).map(|row| &row.rules);
+    let is_likely = |popped: i64| popped > 0 && popped % i64::from(machine.address_bytes) == 0;
+    let before = offset(call)?;
+    let mut at = flow.code.next(call);
+    for _ in 0..FEW_AFTER_CALL {
+        let popped = before.wrapping_sub(offset(at)?);
+        if popped != 0 {
+            return Some(if is_likely(popped) && has_same_rules(at) { popped } else { 0 });
+        }
+        match *flow.code.effect(at) {
+            // The call doesn't return.
+            Effect::Padding => return Some(0),
+            Effect::Add { to, from, number } if to == machine.stack_pointer && from == to => {
+                let is_taken_back = offset(flow.code.next(at)) == Some(before) && number >= -MOST_TAKEN_BACK;
+                return Some(if is_likely(-number) && is_taken_back { -number } else { 0 });
+            }
+            effect if effect.is_push() || effect.may_end_block() => return Some(0),
+            Effect::Pop { .. } | Effect::PopOther { .. } | Effect::PopFlags => return Some(0),
+            effect if effect.written().contains(machine.stack_pointer) => return Some(0),
+            _ => at = flow.code.next(at),
+        }
+        if flow.code.is_leader(at) {
+            return Some(0);
+        }
+    }
+    Some(0)
 }
 
 /// Rule "rows that follow": whether the row after an instruction that moves the stack pointer by a number that isn't
@@ -108,7 +165,7 @@ pub fn is_default_of_switch(code: &Code<'_>, after: u32) -> bool {
         match code.effect(at) {
             Effect::Jump { target: Target::Code(_) } => return false,
             Effect::Jump { .. } => return true,
-            Effect::JumpIf { .. } | Effect::Return | Effect::Stop | Effect::Invalid => return false,
+            Effect::JumpIf { .. } | Effect::Return { .. } | Effect::Stop | Effect::Invalid => return false,
             _ => at = code.next(at),
         }
     }

@@ -16,14 +16,13 @@ const MOST_SLOTS: usize = 28;
 /// and one more.
 const FEW_SLOTS: usize = 8;
 
-/// The number of bytes of a slot.
-const WORD: i64 = 8;
-
-/// A slot of 8 bytes, and what it holds.
+/// A slot, and what it holds.
 #[derive(Clone, Copy, Debug, PartialEq, Eq)]
 struct Slot {
     base: Base,
     offset: i64,
+    /// How many bytes it has: those of an address.
+    bytes: u8,
     value: Value,
 }
 
@@ -43,6 +42,8 @@ pub struct State {
     /// the function never stores an entry value holds none. A slot to which it does is unknown if it
     /// isn't listed: where ways meet, what differs isn't listed anymore.
     pub is_assumed: bool,
+    /// Whether the stack pointer may be above what is known of it, by arguments that a callee has removed.
+    pub is_doubtful: bool,
     /// Whether a slot was left out because there were too many.
     is_full: bool,
     changes: Changes,
@@ -64,23 +65,25 @@ impl Changes {
 
 impl Clone for State {
     fn clone(&self) -> State {
-        let State { registers, is_assumed, is_full, changes, .. } = *self;
-        State { registers, others: self.others.clone(), slots: Rc::clone(&self.slots), is_assumed, is_full, changes }
+        let State { registers, is_assumed, is_doubtful, is_full, changes, .. } = *self;
+        let (others, slots) = (self.others.clone(), Rc::clone(&self.slots));
+        State { registers, others, slots, is_assumed, is_doubtful, is_full, changes }
     }
 
     /// Copies another state into this one, in its place: states are large, and copied for each block.
     fn clone_from(&mut self, other: &State) {
-        let State { registers, others, slots, is_assumed, is_full, changes } = self;
+        let State { registers, others, slots, is_assumed, is_doubtful, is_full, changes } = self;
         *registers = other.registers;
         others.clone_from(&other.others);
         slots.clone_from(&other.slots);
-        (*is_assumed, *is_full, *changes) = (other.is_assumed, other.is_full, other.changes);
+        (*is_assumed, *is_doubtful) = (other.is_assumed, other.is_doubtful);
+        (*is_full, *changes) = (other.is_full, other.changes);
     }
 }
 
 impl PartialEq for State {
     fn eq(&self, other: &State) -> bool {
-        let flags = |state: &State| (state.is_assumed, state.is_full);
+        let flags = |state: &State| (state.is_assumed, state.is_doubtful, state.is_full);
         flags(self) == flags(other)
             && self.registers == other.registers
             && self.others == other.others
@@ -95,7 +98,7 @@ impl State {
     pub fn unknown(is_assumed: bool) -> State {
         let registers = [Value::Unknown; FEW];
         let (others, slots, changes) = (Vec::new(), Rc::default(), Changes::default());
-        State { registers, others, slots, is_assumed, is_full: false, changes }
+        State { registers, others, slots, is_assumed, is_doubtful: false, is_full: false, changes }
     }
 
     /// What may have changed since [`State::take_changes`] was called.
@@ -139,7 +142,7 @@ impl State {
             index if index < FEW => self.registers[index] == other.registers[index],
             _ => self.get(register) == other.get(register),
         };
-        let flags = |state: &State| (state.is_assumed, state.is_full);
+        let flags = |state: &State| (state.is_assumed, state.is_doubtful, state.is_full);
         flags(self) == flags(other) && self.has_same_slots(other) && registers.iter().all(is_same)
     }
 
@@ -181,14 +184,14 @@ impl State {
         self.slots.iter().filter(holds).map(|slot| slot.offset).max()
     }
 
-    /// Stores a value in a slot.
-    pub fn put(&mut self, base: Base, offset: i64, value: Value) {
-        self.overwrite(base, offset, WORD, value);
+    /// Stores a value in a slot of some bytes.
+    pub fn put(&mut self, base: Base, offset: i64, bytes: u8, value: Value) {
+        self.overwrite(base, offset, bytes.into(), value);
         self.changes.has_slots = true;
         let slots = Rc::make_mut(&mut self.slots);
         match slots.iter().position(|slot| (slot.base, slot.offset) == (base, offset)) {
             Some(place) => slots[place].value = value,
-            None if slots.len() < MOST_SLOTS => slots.push(Slot { base, offset, value }),
+            None if slots.len() < MOST_SLOTS => slots.push(Slot { base, offset, bytes, value }),
             None => self.is_full = true,
         }
     }
@@ -196,8 +199,9 @@ impl State {
     /// Notes that a value is stored in a range of bytes, in whole or in part. No slot that shares a byte with them
     /// holds what it held.
     pub fn overwrite(&mut self, base: Base, offset: i64, bytes: i64, value: Value) {
-        let (end, first) = (offset.wrapping_add(bytes), offset.wrapping_sub(WORD));
-        let is_lost = |slot: &Slot| slot.base == base && slot.offset < end && slot.offset > first;
+        let end = offset.wrapping_add(bytes);
+        let is_after = |slot: &Slot| slot.offset.wrapping_add(slot.bytes.into()) > offset;
+        let is_lost = |slot: &Slot| slot.base == base && slot.offset < end && is_after(slot);
         self.lose(is_lost, value != Value::Unknown);
     }
 
@@ -244,7 +248,9 @@ impl State {
         }
         has_changed |= self.merge_slots(other, at, &joins);
         has_changed |= other.is_full && !self.is_full || other.is_assumed && !self.is_assumed;
+        has_changed |= other.is_doubtful && !self.is_doubtful;
         self.is_full |= other.is_full;
+        self.is_doubtful |= other.is_doubtful;
         self.is_assumed |= other.is_assumed;
         has_changed
     }
@@ -287,7 +293,7 @@ impl Join {
             (Value::Address { base: one, offset: from }, Value::Address { base, offset: to }) if one == slot.base => {
                 let distance = slot.offset.wrapping_sub(from);
                 let is_same = other.slot(base, distance.wrapping_add(to)) == Some(slot.value);
-                Some(Slot { base: self.base, offset: distance, value: slot.value }).filter(|_| is_same)
+                Some(Slot { base: self.base, offset: distance, ..*slot }).filter(|_| is_same)
             }
             _ => None,
         }
@@ -301,7 +307,7 @@ mod tests {
     #[test]
     fn a_store_ends_what_it_overlaps() {
         let mut state = State::unknown(false);
-        state.put(Base::CFA, -16, Value::Entry(Register(6)));
+        state.put(Base::CFA, -16, 8, Value::Entry(Register(6)));
         state.overwrite(Base::CFA, -8, 8, Value::Clobbered);
         assert_eq!(state.slot(Base::CFA, -16), Some(Value::Entry(Register(6))));
         state.overwrite(Base::CFA, -9, 1, Value::Clobbered);
@@ -313,7 +319,7 @@ mod tests {
     #[test]
     fn too_many_slots_are_noticed() {
         let mut state = State::unknown(false);
-        (0..29).for_each(|count| state.put(Base::CFA, -8 * count, Value::Entry(Register(3))));
+        (0..29).for_each(|count| state.put(Base::CFA, -8 * count, 8, Value::Entry(Register(3))));
         assert!(state.is_partial(Base::CFA));
     }
 
@@ -322,7 +328,7 @@ mod tests {
         let frame = |offset| {
             let mut state = State::unknown(false);
             state.set(Register(7), Value::from_cfa(offset));
-            state.put(Base::CFA, offset + 8, Value::Entry(Register(3)));
+            state.put(Base::CFA, offset + 8, 8, Value::Entry(Register(3)));
             state
         };
         let mut one = frame(-16);
@@ -336,12 +342,12 @@ mod tests {
     #[test]
     fn merging_loses_what_differs() {
         let mut one = State::unknown(false);
-        one.put(Base::CFA, -16, Value::Entry(Register(6)));
+        one.put(Base::CFA, -16, 8, Value::Entry(Register(6)));
         one.set(Register(7), Value::from_cfa(-16));
         let mut other = one.clone();
         assert!(!one.merge(&other, 4));
         other.set(Register(7), Value::from_cfa(-24));
-        other.put(Base::CFA, -16, Value::Entry(Register(3)));
+        other.put(Base::CFA, -16, 8, Value::Entry(Register(3)));
         other.set(Register(3), Value::Clobbered);
         one.set(Register(3), Value::Entry(Register(3)));
         assert!(one.merge(&other, 4));

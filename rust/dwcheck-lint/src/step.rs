@@ -8,9 +8,6 @@ use crate::stores::Stores;
 use crate::value::{Base, Value};
 use std::num::NonZeroU8;
 
-/// The number of bytes that a push moves the stack pointer by.
-const WORD: i64 = 8;
-
 /// What is known before an instruction, and what the function stores.
 pub struct Step<'a> {
     /// The machine.
@@ -35,6 +32,7 @@ pub struct Called {
 impl Step<'_> {
     /// Changes what is known as an instruction does that isn't a call.
     pub fn apply(&mut self, effect: &Effect) {
+        self.state.is_doubtful &= !self.finds_stack_pointer(effect);
         match *effect {
             Effect::Write { registers, stored } => self.write(registers, stored),
             Effect::System { registers } => self.write(registers, None),
@@ -102,6 +100,7 @@ impl Step<'_> {
                 let value = self.stores.load(self.state, from);
                 self.push(value);
             }
+            Effect::PushNumber { number } => self.push(Value::Number(number)),
             Effect::PushOther | Effect::PushFlags => self.push(Value::Clobbered),
             Effect::Pop { to } => {
                 let value = self.pop();
@@ -138,6 +137,17 @@ impl Step<'_> {
         self.machine.call_writes.iter().for_each(|register| self.state.set(register, Value::Clobbered));
         if let Value::Address { base, offset } = self.state.get(self.machine.stack_pointer) {
             self.state.overwrite_below(base, offset);
+        }
+    }
+
+    /// Whether an instruction sets the stack pointer by another register.
+    fn finds_stack_pointer(&self, effect: &Effect) -> bool {
+        let pointer = self.machine.stack_pointer;
+        match *effect {
+            Effect::Leave => true,
+            Effect::Move { to, from } | Effect::Add { to, from, .. } => to == pointer && from != pointer,
+            Effect::Load { to, .. } | Effect::Pop { to } => to == pointer,
+            _ => false,
         }
     }
 
@@ -303,7 +313,7 @@ impl Step<'_> {
         let value = match base.map_or(Value::Number(0), |base| self.state.get(base)) {
             Value::Number(address) => Value::TableEntry { table: address.wrapping_add(offset), entry },
             _ if entry.bytes < 4 => Value::Clobbered,
-            Value::Address { .. } if entry.bytes == 8 => Value::Unknown,
+            Value::Address { .. } if entry.bytes == self.machine.address_bytes => Value::Unknown,
             address => self.stores.load_elsewhere(self.state, address),
         };
         self.state.set(to, value);
@@ -315,14 +325,14 @@ impl Step<'_> {
 
     fn push(&mut self, value: Value) {
         let pointer = self.machine.stack_pointer;
-        self.state.set(pointer, self.state.get(pointer).plus(-WORD));
+        self.state.set(pointer, self.state.get(pointer).plus(-i64::from(self.machine.address_bytes)));
         self.store(Some(MemoryOperand { base: pointer, offset: 0 }), value);
     }
 
     fn pop(&mut self) -> Value {
         let pointer = self.machine.stack_pointer;
         let value = self.stores.load(self.state, MemoryOperand { base: pointer, offset: 0 });
-        self.state.set(pointer, self.state.get(pointer).plus(WORD));
+        self.state.set(pointer, self.state.get(pointer).plus(self.machine.address_bytes.into()));
         value
     }
 }

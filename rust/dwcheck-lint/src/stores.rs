@@ -140,7 +140,7 @@ impl Stores {
         let address = place.map_or(Value::Clobbered, |place| state.get(place.base).plus_of_place(place));
         match address {
             Value::Address { base, offset } if is_callee_saved(value) => {
-                state.put(base, offset, value);
+                state.put(base, offset, machine.address_bytes, value);
                 self.add(base, offset);
                 if base != Base::CFA {
                     self.stray(value);
@@ -148,7 +148,7 @@ impl Stores {
             }
             Value::Address { base, offset } => {
                 let value = self.overwriting(place, value);
-                state.overwrite(base, offset, 8, value);
+                state.overwrite(base, offset, machine.address_bytes.into(), value);
             }
             _ => {
                 self.stray(value);

@@ -1,8 +1,9 @@
 //! Walks through a block, and finds the edges that lead out of it: jumps, calls, landing pads, falling through.
 
 use crate::flow::Flow;
-use crate::instruction::{Condition, Effect, Entry, Target};
+use crate::instruction::{Condition, Effect, Entry, MemoryOperand, Target};
 use crate::jumps::{jump_table_bound, Table};
+use crate::module::Module;
 use crate::register::Register;
 use crate::rules;
 use crate::state::{Changes, State};
@@ -88,6 +89,22 @@ enum Equality {
     Unknown,
     /// What a register holds.
     Known(Register, Value),
+}
+
+/// The register in which a function leaves the address to which it returns, if that is all it does: so code of i386
+/// finds its own address.
+fn address_of_itself(module: &Module<'_>, target: Target) -> Option<Register> {
+    let address = match target {
+        Target::Code(address) if module.machine.callees_pop => address,
+        _ => return None,
+    };
+    let first = module.instruction_at(address);
+    let second = module.instruction_at(address.wrapping_add(first.length.into()));
+    let returned = MemoryOperand { base: module.machine.stack_pointer, offset: 0 };
+    match (first.effect, second.effect) {
+        (Effect::Load { to, from }, Effect::Return { popped: 0 }) if from == returned => Some(to),
+        _ => None,
+    }
 }
 
 /// A walk through a block.
@@ -190,7 +207,7 @@ impl<'m, V: Visitor<'m>> Walk<'_, V> {
                 self.step(flow).apply(&effect);
                 return true;
             }
-            Effect::Return => self.visitor.exit(flow, self.at, Exit::Return, &self.state),
+            Effect::Return { .. } => self.visitor.exit(flow, self.at, Exit::Return, &self.state),
             Effect::Jump { target } => self.jump(flow, target),
             Effect::JumpIf { target, condition } => self.jump_if(flow, target, condition),
             Effect::Call { target } => self.call(flow, target),
@@ -206,6 +223,7 @@ impl<'m, V: Visitor<'m>> Walk<'_, V> {
 
     /// A jump or a landing at an address, in this FDE or in another.
     fn go(&mut self, flow: &mut Flow<'m, '_>, address: u64, kind: EdgeKind) {
+        let address = address & flow.module.machine.address_mask();
         match flow.code.offset(address) {
             Some(to) => self.edge(flow, self.at, to, kind),
             None => self.visitor.exit(flow, self.at, Exit::To(address), &self.state),
@@ -213,18 +231,19 @@ impl<'m, V: Visitor<'m>> Walk<'_, V> {
     }
 
     fn jump(&mut self, flow: &mut Flow<'m, '_>, target: Target) {
+        let address_entry = Entry::address(flow.module.machine.address_bytes);
         let value = match target {
             Target::Code(address) => return self.go(flow, address, EdgeKind::Jump),
             Target::Register(register) => self.state.get(register),
             Target::Table { base, offset } => match base.map_or(Value::Number(0), |base| self.state.get(base)) {
-                Value::Number(base) => Value::TableEntry { table: base.wrapping_add(offset), entry: Entry::ADDRESS },
+                Value::Number(base) => Value::TableEntry { table: base.wrapping_add(offset), entry: address_entry },
                 _ => Value::Unknown,
             },
             Target::Pointer(_) | Target::Elsewhere => Value::Unknown,
         };
         match value {
-            Value::TableEntry { table, entry: Entry::ADDRESS } => {
-                self.jump_by_table(flow, table as u64, 0, Entry::ADDRESS);
+            Value::TableEntry { table, entry } if entry == address_entry => {
+                self.jump_by_table(flow, table as u64, 0, entry);
             }
             Value::TableTarget { table, anchor, entry } => {
                 let anchor = table.wrapping_add(i64::from(anchor));
@@ -236,6 +255,7 @@ impl<'m, V: Visitor<'m>> Walk<'_, V> {
     }
 
     fn jump_by_table(&mut self, flow: &mut Flow<'m, '_>, address: u64, anchor: u64, entry: Entry) {
+        let address = address & flow.module.machine.address_mask();
         if let Err(place) = flow.tables.binary_search(&address) {
             flow.tables.insert(place, address);
         }
@@ -302,16 +322,40 @@ impl<'m, V: Visitor<'m>> Walk<'_, V> {
     }
 
     fn call(&mut self, flow: &mut Flow<'m, '_>, target: Target) {
+        let (address, next) = (flow.code.address(self.at), flow.code.next(self.at));
+        if let Some(register) = address_of_itself(flow.module, target) {
+            self.state.set(register, Value::Number(flow.code.address(next) as i64));
+            return self.edge(flow, self.at, next, EdgeKind::Fall);
+        }
         let called = flow.effect_of_call(target);
         self.step(flow).call(called);
-        let address = flow.code.address(self.at);
         if let Some(pad) = flow.fde.landing(address) {
             self.land(flow, address, pad);
         }
-        let next = flow.code.next(self.at);
+        self.pop_arguments(flow, target);
         let is_last = next >= flow.code.length() || flow.callees.never_returns(flow.module, target);
         if !is_last && !rules::row_changes_after_call(flow, self.at, &self.state) {
             self.edge(flow, self.at, next, EdgeKind::AfterCall);
+        }
+    }
+
+    /// Rule "arguments that the callee pops": the call removes what the callee's return says. If its code isn't known,
+    /// that is what the row after the call says. If this row doesn't find the CFA by the stack pointer, it isn't known
+    /// whether anything is removed.
+    fn pop_arguments(&mut self, flow: &mut Flow<'m, '_>, target: Target) {
+        if !flow.module.machine.callees_pop {
+            return;
+        }
+        let of_callee = match target {
+            Target::Code(address) if !flow.is_elsewhere(address) => flow.callees.popped(flow.module, address),
+            _ => None,
+        };
+        let popped = of_callee.map(i64::from).or_else(|| rules::arguments_popped_by_rows(flow, self.at));
+        let pointer = flow.module.machine.stack_pointer;
+        match popped {
+            Some(0) => {}
+            Some(bytes) => self.state.set(pointer, self.state.get(pointer).plus(bytes)),
+            None => self.state.is_doubtful = true,
         }
     }
 

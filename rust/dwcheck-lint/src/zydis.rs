@@ -12,6 +12,14 @@ pub(crate) const NO_REGISTER: u8 = 255;
 /// How long an instruction can be.
 const LONGEST: usize = 15;
 
+/// The processors whose code is read, by the numbers of `zydis.c`.
+#[derive(Clone, Copy, Debug, PartialEq, Eq)]
+#[repr(i32)]
+pub(crate) enum Mode {
+    X86_64,
+    I386,
+}
+
 /// The instructions that `zydis.c` tells apart, in its order.
 #[derive(Clone, Copy, Debug, PartialEq, Eq)]
 #[repr(u8)]
@@ -131,8 +139,21 @@ pub(crate) struct Decoded {
 
 extern "C" {
     fn dwcheck_lint_zydis_start() -> c_int;
-    fn dwcheck_lint_zydis_decode(bytes: *const u8, length: usize, address: u64, out: *mut Decoded) -> c_int;
-    fn dwcheck_lint_zydis_text(bytes: *const u8, length: usize, address: u64, text: *mut c_char, size: usize) -> c_int;
+    fn dwcheck_lint_zydis_decode(
+        mode: c_int,
+        bytes: *const u8,
+        length: usize,
+        address: u64,
+        out: *mut Decoded,
+    ) -> c_int;
+    fn dwcheck_lint_zydis_text(
+        mode: c_int,
+        bytes: *const u8,
+        length: usize,
+        address: u64,
+        text: *mut c_char,
+        size: usize,
+    ) -> c_int;
 }
 
 impl Operand {
@@ -220,28 +241,29 @@ fn start_zydis() {
     START.call_once(|| {
         // SAFETY: the call has no arguments, and no other call is made before it has ended.
         let is_made = unsafe { dwcheck_lint_zydis_start() };
-        assert!(is_made != 0, "Zydis has no decoder for x86-64");
+        assert!(is_made != 0, "Zydis has no decoder for x86-64 and i386");
     });
 }
 
 /// Decodes the instruction at the first byte. `None` if there is none.
-pub(crate) fn decode_by_zydis(bytes: &[u8], address: u64) -> Option<Decoded> {
+pub(crate) fn decode_by_zydis(mode: Mode, bytes: &[u8], address: u64) -> Option<Decoded> {
     start_zydis();
     let mut out = Decoded::default();
     let length = bytes.len().min(LONGEST);
     // SAFETY: the bytes are only read, `out` is a local, and the decoder has been made.
-    let is_decoded = unsafe { dwcheck_lint_zydis_decode(bytes.as_ptr(), length, address, &mut out) };
+    let is_decoded = unsafe { dwcheck_lint_zydis_decode(mode as c_int, bytes.as_ptr(), length, address, &mut out) };
     Some(out).filter(|_| is_decoded != 0)
 }
 
 /// The text of the instruction at the first byte. `None` if there is none.
-pub(crate) fn text_by_zydis(bytes: &[u8], address: u64) -> Option<String> {
+pub(crate) fn text_by_zydis(mode: Mode, bytes: &[u8], address: u64) -> Option<String> {
     start_zydis();
     let mut text = [0u8; 256];
     let length = bytes.len().min(LONGEST);
     // SAFETY: the bytes are only read, `text` is a local, and the formatter has been made.
-    let is_decoded =
-        unsafe { dwcheck_lint_zydis_text(bytes.as_ptr(), length, address, text.as_mut_ptr().cast(), text.len()) };
+    let is_decoded = unsafe {
+        dwcheck_lint_zydis_text(mode as c_int, bytes.as_ptr(), length, address, text.as_mut_ptr().cast(), text.len())
+    };
     let end = text.iter().position(|byte| *byte == 0)?;
     Some(String::from_utf8_lossy(&text[..end]).into_owned()).filter(|_| is_decoded != 0)
 }

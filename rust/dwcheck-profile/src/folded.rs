@@ -16,11 +16,12 @@ use std::io::{self, Write};
 ///
 /// Those of `out`.
 pub fn write_folded(profile: &Profile, names: &Names, event: usize, out: &mut impl Write) -> io::Result<()> {
-    let lines = folded_stacks(profile, names, event);
+    let lines = folded_stacks(profile, names, event, Threads::Named);
     lines.into_iter().try_for_each(|(line, weight)| writeln!(out, "{} {}", line, weight))
 }
 
-/// Writes the stacks of an old profile and of a new one with what they weigh in both, as flamegraph.pl takes them.
+/// Writes the stacks of an old profile and of a new one with what they weigh in both, as flamegraph.pl takes them. The
+/// names of threads are left out: two builds of a program may have two names, and their stacks are to be compared.
 ///
 /// # Errors
 ///
@@ -28,15 +29,22 @@ pub fn write_folded(profile: &Profile, names: &Names, event: usize, out: &mut im
 pub fn write_folded_compared(old: Side<'_>, new: Side<'_>, out: &mut impl Write) -> io::Result<()> {
     let mut both: BTreeMap<String, [u64; SIDES]> = BTreeMap::new();
     for (index, side) in [old, new].into_iter().enumerate() {
-        for (line, weight) in folded_stacks(side.profile, side.names, side.event) {
+        for (line, weight) in folded_stacks(side.profile, side.names, side.event, Threads::LeftOut) {
             both.entry(line).or_default()[index] = weight;
         }
     }
     both.into_iter().try_for_each(|(line, [old, new])| writeln!(out, "{} {} {}", line, old, new))
 }
 
+/// Whether lines begin with the names of threads.
+#[derive(Clone, Copy, Debug, PartialEq, Eq)]
+enum Threads {
+    Named,
+    LeftOut,
+}
+
 /// The stacks of an event with what they weigh, in the order of their texts.
-fn folded_stacks(profile: &Profile, names: &Names, event: usize) -> Vec<(String, u64)> {
+fn folded_stacks(profile: &Profile, names: &Names, event: usize, threads: Threads) -> Vec<(String, u64)> {
     let calls = Calls::of(profile, names);
     let mut weights: FxHashMap<(u32, u32), u64> = FxHashMap::default();
     for sample in profile.samples_of(event) {
@@ -45,7 +53,13 @@ fn folded_stacks(profile: &Profile, names: &Names, event: usize) -> Vec<(String,
     }
     let stacks: Vec<_> = weights.into_iter().collect();
     let texts = Texts::of(profile, names, &calls);
-    let line = |((comm, node), weight): &((u32, u32), u64)| (texts.line(&calls, *comm, *node), *weight);
+    let line = |((comm, node), weight): &((u32, u32), u64)| {
+        let line = texts.line(&calls, *comm, *node);
+        match threads {
+            Threads::Named => (line, *weight),
+            Threads::LeftOut => (texts.without_thread(&line, *comm), *weight),
+        }
+    };
     let mut lines: Vec<(String, u64)> = stacks.par_iter().map(line).collect();
     lines.par_sort_unstable();
     // Functions of the same name, in several objects, are one.
@@ -79,6 +93,13 @@ impl Texts {
         parts.push(self.comms.get(comm as usize).map_or("", String::as_str));
         parts.reverse();
         parts.concat()
+    }
+
+    /// A line without the thread's name and the semicolon after it, or `?` if the sample has no functions.
+    fn without_thread(&self, line: &str, comm: u32) -> String {
+        let name = self.comms.get(comm as usize).map_or(0, String::len);
+        let functions = line.get(name..).and_then(|rest| rest.strip_prefix(';'));
+        functions.unwrap_or("?").to_string()
     }
 }
 

@@ -161,7 +161,7 @@ impl Tracer<'_, '_> {
                 let callee = callee.wrapping_add(from.address.wrapping_sub(site.address));
                 Some(callee).filter(|callee| self.options.all || !self.is_done_from(space, *callee))?
             }
-            Effect::Return if site.length <= PLAIN_RETURN => predicted_return(thread, state)?,
+            Effect::Return { .. } if site.length <= PLAIN_RETURN => predicted_return(thread, state)?,
             _ => return None,
         };
         let site = self.instruction_at(space, address).site;
@@ -263,7 +263,7 @@ impl Tracer<'_, '_> {
         thread.here = self.instruction_at(space, last.address);
         let pushed = match thread.here.effect {
             Effect::Call { .. } => Some(8),
-            Effect::Return => Some(8_u64.wrapping_neg()),
+            Effect::Return { .. } => Some(8_u64.wrapping_neg()),
             _ => None,
         };
         let expected = batch.states[point.state].registers.stack_pointer().wrapping_sub(pushed.unwrap_or(0));

@@ -114,7 +114,7 @@ impl Tracer<'_, '_> {
             Some(frame) if frame.slot == thread.stack_pointer() => frame,
             _ => return false,
         };
-        if matches!(thread.here.effect, Effect::Return) || new.stack_pointer() != frame.cfa {
+        if matches!(thread.here.effect, Effect::Return { .. }) || new.stack_pointer() != frame.cfa {
             return false;
         }
         let site = self.instruction_at(space, new.program_counter());
@@ -149,7 +149,7 @@ impl Tracer<'_, '_> {
     /// frame that is on top now may not be the one that goes on.
     fn frames_left(&mut self, thread: &mut Thread, frame: &Frame, count: usize, new: &Registers) {
         let is_return =
-            matches!(thread.here.effect, Effect::Return) && count == 1 && frame.slot == thread.stack_pointer();
+            matches!(thread.here.effect, Effect::Return { .. }) && count == 1 && frame.slot == thread.stack_pointer();
         if is_return && new.program_counter() == frame.return_address {
             self.note_returned(thread, frame, new);
             return;
@@ -207,7 +207,7 @@ impl Tracer<'_, '_> {
 fn may_switch_stacks(effect: &Effect) -> bool {
     let is_stack = |register: &Register| *register == X86_64.stack_pointer;
     match effect {
-        Effect::Return => true,
+        Effect::Return { .. } => true,
         Effect::Exchange { one, other } => is_stack(one) || is_stack(other),
         Effect::Move { to, .. } | Effect::MayMove { to, .. } | Effect::Load { to, .. } | Effect::Pop { to } => {
             is_stack(to)

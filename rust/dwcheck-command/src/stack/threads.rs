@@ -77,6 +77,7 @@ impl<'r, 'a> Report<'r, 'a> {
             is_strict: self.arguments.strict,
             scans: self.arguments.scan,
             keeps_registers: self.arguments.registers || self.arguments.vars,
+            finds_tail_calls: true,
             outermost: if self.overflowed == Some(thread.id) { OUTERMOST } else { 0 },
         };
         self.stacks.walk(thread, options).map_err(|error| Failure::File(format!("thread {}: {}", thread.id, error)))

@@ -6,12 +6,15 @@ use crate::common::{has, may_trace, Folder};
 
 const CXX: &str = "
 #include <array>
+#include <deque>
+#include <list>
 #include <map>
 #include <memory>
 #include <optional>
 #include <set>
 #include <string>
 #include <string_view>
+#include <tuple>
 #include <unordered_map>
 #include <variant>
 #include <vector>
@@ -29,7 +32,15 @@ __attribute__((noinline)) int work(int n) {
     choice number = 3, text = \"chosen\";
     std::unique_ptr<point> only(new point{n, 2.5}), gone;
     std::shared_ptr<int> shared = std::make_shared<int>(4), other = shared;
-    std::weak_ptr<int> watching = shared;
+    std::weak_ptr<int> watching = shared, expired = std::make_shared<int>(9);
+    std::list<int> chain = {7, 8, n}, unchained;
+    std::deque<short> blocks(300, 5);
+    for (int i = 0; i < 299; i++) blocks.pop_front();
+    blocks.push_back(6);
+    std::deque<point> ends;
+    ends.push_front({1, 0.5});
+    ends.push_back({2, 1.5});
+    std::tuple<int, std::string, double> three(n, \"two\", 3.5);
     std::map<std::string, int> ages = {{\"bob\", 41}, {\"ann\", 30}};
     std::set<int> sorted = {3, 1, 2};
     std::unordered_map<int, std::string> names = {{1, \"one\"}, {2, \"two\"}};
@@ -40,7 +51,7 @@ int main(int argc, char **argv) { return work(argc + 2); }
 ";
 
 /// Variables with what gdb and `vars` show of them, but for addresses.
-const SHOWN: [(&str, &str, &str); 19] = [
+const SHOWN: [(&str, &str, &str); 26] = [
     ("empty", r#""""#, r#""""#),
     ("small", r#""small""#, r#""small""#),
     ("large", "'x' <repeats 30 times>", r#""xxxxxxxxxxxxxxxxxxxxxxxxxxxxxx""#),
@@ -61,6 +72,13 @@ const SHOWN: [(&str, &str, &str); 19] = [
     ("gone", "std::unique_ptr<point> = {get() = }", ""),
     ("shared", "std::shared_ptr<int> (use count 2, weak count 1) = {get() = }", "@: 4 (use count 2, weak count 1)"),
     ("other", "std::shared_ptr<int> (use count 2, weak count 1) = {get() = }", "@: 4 (use count 2, weak count 1)"),
+    ("watching", "std::weak_ptr<int> (use count 2, weak count 1) = {get() = }", "@: 4 (use count 2, weak count 1)"),
+    ("expired", "std::weak_ptr<int> (expired, weak count 1) = {get() = }", "(use count 0, weak count 1)"),
+    ("chain", "std::__cxx11::list = {[0] = 7, [1] = 8, [2] = 3}", "{7, 8, 3}"),
+    ("unchained", "empty std::__cxx11::list", "{}"),
+    ("blocks", "std::deque with 2 elements = {5, 6}", "{5, 6}"),
+    ("ends", "std::deque with 2 elements = {{x = 1, y = 0.5}, {x = 2, y = 1.5}}", "{{..}, {..}}"),
+    ("three", r#"std::tuple containing = {[1] = 3, [2] = "two", [3] = 3.5}"#, r#"{3, "two", 3.5}"#),
     ("ages", r#"std::map with 2 elements = {["ann"] = 30, ["bob"] = 41}"#, r#"{["ann"] = 30, ["bob"] = 41}"#),
     ("sorted", "std::set with 3 elements = {[0] = 1, [1] = 2, [2] = 3}", "{1, 2, 3}"),
     ("names", r#"std::unordered_map with 2 elements = {[2] = "two", [1] = "one"}"#, r#"{[2] = "two", [1] = "one"}"#),
@@ -166,7 +184,7 @@ fn what_no_container_can_hold_is_shown_as_a_structure() {
 }
 
 const RUST: &str = "
-use std::collections::{HashMap, HashSet};
+use std::collections::{HashMap, HashSet, VecDeque};
 use std::rc::Rc;
 use std::sync::Arc;
 #[allow(dead_code)]
@@ -191,6 +209,10 @@ fn work(n: i32) {
     ages.insert(7, 30);
     let mut keys: HashSet<u16> = HashSet::new();
     keys.insert(9);
+    let mut circle: VecDeque<i32> = (0..7).collect();
+    circle.drain(..5);
+    circle.extend([n, 8, 9, 10]);
+    let empty_circle: VecDeque<u8> = VecDeque::new();
     unsafe { std::arch::asm!(\"ud2\") }
 }
 fn main() { work(3) }
@@ -222,6 +244,8 @@ fn containers_of_rust_hold_what_the_source_says() {
         ("counted", r#"@: "counted" (use count 1, weak count 0)"#),
         ("ages", "{[7] = 30}"),
         ("keys", "{9}"),
+        ("circle", "{5, 6, 3, 8, 9, 10}"),
+        ("empty_circle", "{}"),
     ];
     expected.iter().for_each(|(name, shown)| assert_eq!(value(&ours, name), *shown, "{}", name));
     // Where the value is isn't said by the type.

@@ -2,7 +2,7 @@
 //! debug information.
 
 use crate::common::run::dwcheck_elf;
-use crate::common::{has, Folder};
+use crate::common::{has, hex, Folder};
 use serde_json::Value;
 
 const INLINES: &str = "
@@ -248,10 +248,126 @@ int main(int argc, char **argv) { return jumps(argc) + 1; }
 const TAIL_CALLS: &str = "python
 frame = gdb.newest_frame()
 while frame is not None:
-    print('jumped' if frame.type() == gdb.TAILCALL_FRAME else 'frame', frame.name())
+    word = {gdb.TAILCALL_FRAME: 'jumped', gdb.INLINE_FRAME: 'inlined'}.get(frame.type(), 'frame')
+    print(word, frame.name(), hex(frame.pc()))
     frame = frame.older()
 end
 ";
+
+/// A line of a frame as `frame NAME`, or `jumped NAME` if the function ended with a jump.
+fn shown_frame(line: &str) -> String {
+    format!("{} {}", kind_of_frame(line), line.split([' ', '+', '(']).nth(2).unwrap())
+}
+
+fn kind_of_frame(line: &str) -> &'static str {
+    if line.ends_with(" tail call") {
+        "jumped"
+    } else {
+        "frame"
+    }
+}
+
+/// Jumps in one unit and from it to another, by one way and by two, by a pointer, from an inlined function, and from a
+/// function that calls itself.
+const WAYS: [(&str, &str); 2] = [
+    (
+        "a.c",
+        "
+#ifdef __clang__
+#define FUNCTION __attribute__((noinline)) int
+#else
+#define FUNCTION __attribute__((noipa)) int
+#endif
+int other(int), last(int);
+FUNCTION left(int n) { return last(n + 1); }
+FUNCTION right(int n) { return last(n + 2); }
+FUNCTION either(int n) { return n & 1 ? left(n) : right(n); }
+FUNCTION one(int n) { return left(n * 2); }
+FUNCTION units(int n) { return other(n + 1); }
+static int (*volatile pointer)(int) = left;
+FUNCTION pointed(int n) { return pointer(n); }
+static inline __attribute__((always_inline)) int inner(int n) { return one(n - 1); }
+FUNCTION inlines(int n) { return inner(n + 3); }
+FUNCTION again(int n) { return n > 9 ? last(n) : n > 5 ? again(n + 1) : left(n); }
+FUNCTION by_one(int n) { return one(n) + 1; }
+FUNCTION by_either(int n) { return either(n) + 1; }
+FUNCTION by_units(int n) { return units(n) + 1; }
+FUNCTION by_pointed(int n) { return pointed(n) + 1; }
+FUNCTION by_inlines(int n) { return inlines(n) + 1; }
+FUNCTION by_again(int n) { return again(n) + 1; }
+int main(int argc, char **argv) {
+    switch (argv[1][0]) {
+    case 'o': return by_one(argc) + 1;
+    case 'e': return by_either(argc) + 1;
+    case 'u': return by_units(argc) + 1;
+    case 'p': return by_pointed(argc) + 1;
+    case 'i': return by_inlines(argc) + 1;
+    }
+    return by_again(argc) + 1;
+}
+",
+    ),
+    (
+        "b.c",
+        "
+#ifdef __clang__
+#define FUNCTION __attribute__((noinline)) int
+#else
+#define FUNCTION __attribute__((noipa)) int
+#endif
+FUNCTION last(int n) { if (n) __builtin_trap(); return n; }
+FUNCTION middle(int n) { return last(n + 1); }
+FUNCTION other(int n) { return middle(n + 1); }
+",
+    ),
+];
+
+/// Where call sites prove one way, the frames are gdb's. Of two ways, gdb may show what they have in common; here nothing
+/// is shown.
+#[test]
+fn tail_calls_that_call_sites_prove_are_frames_as_in_gdb() {
+    let folder = Folder::new("places-proved-tail-calls");
+    for (name, text) in WAYS {
+        folder.write(name, text);
+    }
+    folder.write("frames.gdb", TAIL_CALLS);
+    if !has("gdb") {
+        return;
+    }
+    // The trap stays in the function that has it.
+    let gcc = "gcc -O2 -fno-reorder-blocks-and-partition";
+    for compiler in [gcc, &format!("{} -gdwarf-4", gcc), "clang -O2 -gdwarf-4"] {
+        folder.run(&format!("{} -g -no-pie a.c b.c -o program", compiler));
+        for way in ["one", "either", "units", "pointed", "inlines", "again"] {
+            folder.make_core(&format!("./program {}", way));
+            let shown = folder.run("gdb --batch -x frames.gdb program core 2> /dev/null | grep -E '^(jumped|frame) '");
+            let own = shown.lines().take_while(|line| !line.starts_with("frame main "));
+            // gdb names a frame that jumped after the function that is inlined there.
+            let words = own.map(|line| line.split(' ').collect::<Vec<_>>()).filter(|words| words[0] != "inlined");
+            let theirs: Vec<_> = words.map(|words| (words[0], hex(words[2]))).collect();
+            let ran = dwcheck_elf(&folder, "stack --no-source core");
+            let frames = ran.lines().into_iter().filter(|line| line.starts_with('#') && !line.contains(" inlined ("));
+            let frames: Vec<_> = frames.take_while(|line| !line.contains(" main+")).collect();
+            let address = |line: &str| hex(line.split(' ').nth(1).unwrap());
+            let ours: Vec<_> = frames.iter().map(|line| (kind_of_frame(line), address(line))).collect();
+            let (first, last) = (frames[0], frames[frames.len() - 1]);
+            let is_whole = first.contains(" last+") && last.contains(&format!(" by_{}+", way));
+            assert!(is_whole, "{} {}: {}", compiler, way, ran.out);
+            match way {
+                "either" | "again" => assert_eq!(ours.len(), 2, "{} {}: {}", compiler, way, ran.out),
+                _ => assert_eq!(ours, theirs, "{} {}: {}", compiler, way, ran.out),
+            }
+            assert_eq!(
+                ours.len() > 2,
+                !["either", "again", "pointed"].contains(&way),
+                "{} {}: {}",
+                compiler,
+                way,
+                ran.out
+            );
+        }
+    }
+}
 
 /// The function that was called and that has no frame is the outermost one of those that gdb says have jumped.
 #[test]
@@ -262,27 +378,41 @@ fn a_tail_call_is_marked_where_gdb_knows_one() {
     if !has("gdb") {
         return;
     }
-    for flags in ["-g", "", "-m32 -fno-pic -no-pie"] {
+    for (flags, is_bare) in [("", false), ("", true), ("-m32 -fno-pic -no-pie", false), ("-m32 -fPIE -pie", true)] {
         // The trap stays in the function that has it.
-        let flags = format!("-O2 -fno-reorder-blocks-and-partition {}", flags);
-        folder.run(&format!("gcc -g {} a.c -o program; gcc {0} a.c -o bare", flags));
+        folder.run(&format!("gcc -g -O2 -fno-reorder-blocks-and-partition {} a.c -o program", flags));
         folder.make_core("./program");
         make_root(&folder);
+        if is_bare {
+            folder.run("strip -g root$PWD/program");
+        }
         let shown = folder.run("gdb --batch -x frames.gdb program core 2> /dev/null | grep -E '^(jumped|frame) '");
-        let own: Vec<_> = shown.lines().take_while(|line| *line != "frame main").collect();
+        let own: Vec<_> = shown.lines().filter_map(|line| line.rsplit_once(' ')).map(|(frame, _)| frame).collect();
+        let own: Vec<_> = own.into_iter().take_while(|frame| *frame != "frame main").collect();
         assert_eq!(own, ["frame last", "jumped second", "jumped first", "frame calls", "jumped jumps"], "{}", shown);
         let ran = dwcheck_elf(&folder, "stack --root root --no-source core");
         let names = ran.lines().into_iter().filter(|line| line.starts_with('#') || line.starts_with("tail call"));
         let name = |line: &str| match line.strip_prefix("tail call from ") {
             Some(from) => format!("jumped {}", from),
-            None => format!("frame {}", line.split([' ', '+']).nth(2).unwrap()),
+            None => shown_frame(line),
         };
-        let names: Vec<_> = names.map(name).take(5).collect();
-        let expected = ["frame last", "jumped first", "frame calls", "jumped jumps", "frame main"];
-        assert_eq!(names, expected, "{}{}", ran.out, ran.error);
+        let names: Vec<_> = names.map(name).take_while(|name| name != "frame main").collect();
         let json = document(&folder, "core");
         let from: Vec<_> = own_frames(&json).iter().map(|frame| frame["tail_call_from"].clone()).take(3).collect();
-        assert_eq!(from, [Value::from("first"), Value::from("jumps"), Value::Null], "{}", json);
+        if !is_bare {
+            assert_eq!(names, own, "{}{}", ran.out, ran.error);
+            assert_eq!(from, [Value::Null, Value::Null, Value::Null], "{}", json);
+        } else {
+            // Only the function is known that was called.
+            assert_eq!(
+                names,
+                ["frame last", "jumped first", "frame calls", "jumped jumps"],
+                "{}{}",
+                ran.out,
+                ran.error
+            );
+            assert_eq!(from, [Value::from("first"), Value::from("jumps"), Value::Null], "{}", json);
+        }
     }
 }
 

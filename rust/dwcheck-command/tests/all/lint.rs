@@ -202,6 +202,38 @@ fn nothing_is_found_in_right_objects() {
     }
 }
 
+/// Tables of jumps, found by relocations that are relative to the global offset table, and calls of functions that don't
+/// return, found in position-independent programs by entries of the procedure linkage table that use it.
+#[test]
+fn code_for_i386() {
+    let folder = Folder::new("lint-i386");
+    folder.write("a.c", C);
+    for options in ["-O2 -fPIC", "-O2 -fno-pic -no-pie", "-O0 -fPIE"] {
+        folder.run(&format!("gcc -m32 -w {0} -c a.c && gcc -m32 -w {0} a.c -o a", options));
+        let (unlinked, linked) = (dwcheck_elf(&folder, "lint a.o"), dwcheck_elf(&folder, "lint a"));
+        assert_eq!((unlinked.status, linked.status), (0, 0), "{}{}", unlinked.out, linked.out);
+        let counts: Vec<_> = unlinked.out.split_whitespace().skip_while(|word| *word != "instructions").collect();
+        assert_eq!((counts[1], counts.len()), (counts[3], 4), "{}", unlinked.out);
+    }
+    let pushes = ".text
+f: .cfi_startproc
+ push %ebx
+ mov 8(%esp), %ebx
+ pop %ebx
+ ret
+ .cfi_endproc
+ .type f, @function
+ .size f, .-f
+";
+    folder.write("a.s", pushes);
+    folder.run("gcc -m32 -c a.s");
+    let ran = dwcheck_elf(&folder, "lint a.o");
+    let lines = ran.lines();
+    assert_eq!((ran.status, lines.len()), (1, 6), "{}{}", ran.out, ran.error);
+    assert!(lines[0].starts_with("a.o: push without row at f+0x1 (.text+0x1): backtrace broken: "), "{}", ran.out);
+    assert_eq!(lines[4].trim(), "code: cfa=esp+8; right would be: .cfi_def_cfa_offset 8");
+}
+
 /// A function for aarch64 that loses its stack pointer before it calls a function elsewhere that doesn't
 /// return, one with a table of jumps, and one with a wrong row.
 const AARCH64: &str = ".text
@@ -421,7 +453,7 @@ fn code_of_other_machines_is_not_read() {
     folder.write("a.c", "int twice(int x) { return x + x; }");
     folder.run("arm-linux-gnueabihf-gcc -shared -nostdlib a.c -o a.so");
     let ran = dwcheck_elf(&folder, "lint a.so");
-    let expected = "dwcheck-elf: a.so: the code of machine 40 isn't read, only that of x86-64 and aarch64\n";
+    let expected = "dwcheck-elf: a.so: the code of machine 40 isn't read, only that of x86-64, i386 and aarch64\n";
     assert_eq!((ran.status, ran.error.as_str()), (3, expected));
 }
 

@@ -149,6 +149,29 @@ said.state = state();
     assert_eq!(other["state"][1], 0);
 }
 
+/// As `--focus` says them: `leaf` is always called by `twice`, which is called by `middle`.
+#[test]
+fn a_zoom_shows_callers_and_what_is_called() {
+    let folder = Folder::new("profile-page-beside");
+    let lines = "
+const shows = () => [at('beside').hidden, (at('beside').children ?? []).map(part => part.textContent)];
+said.first = shows();
+click('twice');
+said.zoomed = shows();
+at('beside').children.find(part => part.textContent.startsWith('leaf')).click();
+said.leaf = [label(view.focus), shows()[1]];
+click('all');
+said.all = shows();
+";
+    if let Some(said) = said(&folder, &[USED, lines].concat()) {
+        assert_eq!((&said["first"], &said["all"]), (&json!([true, []]), &json!([true, []])));
+        let twice = ["twice ", "called by: ", "middle 100.00%", " calls: ", "leaf 100.00%"];
+        assert_eq!(said["zoomed"], json!([false, twice]));
+        let leaf = ["leaf ", "called by: ", "twice 100.00%", " calls: ", "none 100.00%"];
+        assert_eq!(said["leaf"], json!(["leaf", leaf]));
+    }
+}
+
 /// What the samples of an event weigh together, by perf's lines.
 fn weight(script: &str, event: &str) -> u64 {
     let script = std::fs::read_to_string(recordings().join(script)).unwrap();
@@ -187,7 +210,8 @@ fn two_recordings_are_compared() {
         dwcheck_elf_words(&folder, &[&all[..], words].concat())
     };
     let weights = ["dwarf.script", "chain.script"].map(|script| weight(script, "cpu-clock:u"));
-    let folded = format!("spin;_start;main;middle;twice;leaf {} 0\nspin;leaf 0 {}\n", weights[0], weights[1]);
+    // The names of threads, which may be those of two builds, aren't compared.
+    let folded = format!("_start;main;middle;twice;leaf {} 0\nleaf 0 {}\n", weights[0], weights[1]);
     assert_eq!(run(&[]).out, folded);
     let top = run(&["--format", "top", "--rows", "1"]).out;
     let rows: Vec<Vec<&str>> = top.lines().map(|line| line.split_whitespace().collect()).collect();

@@ -75,7 +75,8 @@ fn lines_and_inlined_functions_are_those_of_the_program() {
     folder.run("gcc -O2 -g a.c -o program");
     folder.make_core("./program");
     let before = dwcheck_elf(&folder, "stack core");
-    let inlined: Vec<_> = before.out.lines().filter(|line| line.contains(" inlined ")).collect();
+    let inlined: Vec<_> =
+        before.out.lines().filter(|line| line.contains(" inlined ") && line.contains("/program)")).collect();
     assert!(inlined.len() == 2 && inlined[0].contains(" inner ") && inlined[1].contains(" middle "), "{}", before.out);
     write(&folder, "program");
     folder.run("rm program");

@@ -18,7 +18,6 @@ use dwcheck_lint::landings::landings;
 use dwcheck_lint::machine::Machine;
 use dwcheck_lint::module::{Convention, Module, Segment};
 use dwcheck_lint::table::{Cfa, Fde, Row, Rows, Rule};
-use dwcheck_types::target::AddressSize;
 use gimli::{CallFrameInstruction, EndianSlice, Pointer, RunTimeEndian, UnwindSection};
 use sframe::SframeRows;
 use std::cell::RefCell;
@@ -187,7 +186,7 @@ fn eh_frame_fdes(frames: &Frames<'_>, module: &Module<'_>, signs: &Signs) -> Vec
         let offset = (record.offset as usize).into();
         let header = section.fde_from_offset(&bases, offset, gimli::EhFrame::cie_from_offset).ok()?;
         let landings = match header.lsda() {
-            Some(Pointer::Direct(address)) => landings(module.bytes_at(address), begin),
+            Some(Pointer::Direct(address)) => landings(module.bytes_at(address), begin, module.machine.address_bytes),
             _ => Vec::new(),
         };
         let argument_bytes = argument_bytes(&header, header.instructions(&section, &bases));
@@ -309,8 +308,8 @@ impl<'a> OneSection<'a> {
 impl LintError {
     /// The machine of a program whose code can be read, or why it can't.
     pub fn of(program: &Program<'_>) -> Result<&'static Machine, LintError> {
-        let is_wide = program.target().address_size == AddressSize::Eight;
-        let machine = Machine::numbered(program.machine()).filter(|_| is_wide);
+        let bytes = program.target().address_size.bytes();
+        let machine = Machine::numbered(program.machine()).filter(|machine| machine.address_bytes == bytes);
         machine.ok_or_else(|| LintError::Machine(program.machine()))
     }
 }
@@ -319,7 +318,7 @@ impl fmt::Display for LintError {
     fn fmt(&self, f: &mut fmt::Formatter<'_>) -> fmt::Result {
         match self {
             LintError::Machine(number) => {
-                write!(f, "the code of machine {} isn't read, only that of x86-64 and aarch64", number)
+                write!(f, "the code of machine {} isn't read, only that of x86-64, i386 and aarch64", number)
             }
         }
     }

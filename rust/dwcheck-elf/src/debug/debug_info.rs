@@ -19,6 +19,12 @@ use typed_arena::Arena;
 /// The bytes of a section.
 pub(crate) type Slice<'a> = EndianSlice<'a, RunTimeEndian>;
 
+/// Units, and the addresses of each, by its index.
+pub(crate) struct UnitsByAddress<'a> {
+    pub units: Units<'a>,
+    pub ranges: Vec<(Range<u64>, usize)>,
+}
+
 /// The bytes of a section of a program, empty if the program doesn't have it. If it is compressed, it is
 /// decompressed into `unpacked`.
 pub(crate) fn debug_section_bytes<'a>(

@@ -3,7 +3,7 @@
 
 mod contexts;
 
-use crate::debug::debug_info::{file_path, Slice};
+use crate::debug::debug_info::{file_path, Slice, UnitsByAddress};
 use crate::elf::debug_files::DebugFiles;
 use crate::elf::program::Program;
 use contexts::{Context, Contexts};
@@ -53,6 +53,16 @@ impl<'a> Lines<'a> {
             false => Some(functions_in(&context.units, address)).filter(|found| !found.is_empty()),
         };
         self.0.find(address, functions).unwrap_or_default()
+    }
+
+    /// All units, without what files share.
+    pub(crate) fn all_units(&self) -> Option<UnitsByAddress<'a>> {
+        self.0.all_units()
+    }
+
+    /// Gives back the memory of what was read of the file into which `.debug_info` was decompressed.
+    pub(crate) fn give_back(&self) {
+        self.0.give_back();
     }
 
     /// Whether the debug information of the unit at an address is in a file of its own (`-gsplit-dwarf`).

@@ -10,6 +10,7 @@ mod json;
 mod location;
 mod scopes;
 mod split;
+mod tail_calls;
 mod text;
 mod thread_local;
 mod typed;
@@ -18,6 +19,7 @@ mod value;
 mod value_location;
 
 pub(crate) use split::Called;
+pub(crate) use tail_calls::{CallSites, TailCall};
 pub use text::Lines;
 pub use thread_local::Loaded;
 pub use value::{Shape, Value};

@@ -2,9 +2,10 @@
 
 use crate::elf::layout::{is_loaded_section, Layout};
 use crate::elf::relocate::{Object, Outside, APART};
+use dwcheck_lint::i386::IN_OFFSET_TABLE;
 use object::elf::{PF_X, SHF_EXECINSTR};
 use object::read::{Object as _, ObjectSection, ObjectSegment, ObjectSymbol, RelocationTarget, SectionIndex};
-use object::{SectionFlags, SegmentFlags};
+use object::{Architecture, SectionFlags, SegmentFlags};
 use std::borrow::Cow;
 
 /// The most bytes of all sections of an unlinked object to which relocations are applied. In a hostile file, sections
@@ -94,8 +95,21 @@ fn undefined_symbols<'data>(file: &object::File<'data>, outside: Outside) -> Vec
     named.flat_map(|(index, name)| [(outside.symbol(index), name), (outside.pointer(index), name)]).collect()
 }
 
-/// The pointers that the dynamic linker sets.
+/// The pointers that the dynamic linker sets. Position-independent code of i386 names them by their distance from the
+/// global offset table, so they are listed by that, too.
 pub(crate) fn dynamic_imports<'data>(file: &object::File<'data>) -> Vec<(u64, &'data str)> {
+    let mut imports = pointers_by_address(file);
+    let table = [".got.plt", ".got"].iter().find_map(|name| file.section_by_name(name));
+    if let Some(table) = table.filter(|_| file.architecture() == Architecture::I386) {
+        let distance = |address: u64| address.wrapping_sub(table.address()) & u64::from(u32::MAX);
+        let relative: Vec<_> =
+            imports.iter().map(|(address, name)| (IN_OFFSET_TABLE | distance(*address), *name)).collect();
+        imports.extend(relative);
+    }
+    imports
+}
+
+fn pointers_by_address<'data>(file: &object::File<'data>) -> Vec<(u64, &'data str)> {
     use object::read::ObjectSymbolTable;
     let symbols = file.dynamic_symbol_table();
     let relocations = file.dynamic_relocations().into_iter().flatten();

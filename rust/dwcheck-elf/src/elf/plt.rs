@@ -20,7 +20,7 @@ pub(crate) struct Stub<'data> {
     pub function: &'data str,
 }
 
-/// The stubs of a linked file for x86-64 or aarch64, in its sections `.plt`, `.plt.sec` and
+/// The stubs of a linked file for x86-64, i386 or aarch64, in its sections `.plt`, `.plt.sec` and
 /// `.plt.got`. A stub whose slot has no relocation with a name is left out. Empty for other machines.
 pub(crate) fn plt_stubs<'data>(file: &object::File<'data>, machine: u16) -> Vec<Stub<'data>> {
     let machine = match Machine::numbered(machine) {

@@ -141,7 +141,26 @@ impl Object<'_, '_> {
                 _ => None,
             };
         }
+        if self.machine == elf::EM_386 {
+            if let Some(found) = self.i386_step(relocation, outside) {
+                return Some(found);
+            }
+        }
         Some((relocation_step(self.machine, relocation).ok()?, self.known(relocation, outside)?))
+    }
+
+    /// The same for the relocations of i386 that are relative to the global offset table, which is at address 0 here: what
+    /// is relative to it is then an address.
+    fn i386_step(&self, relocation: &Relocation, outside: Outside) -> Option<(Step, u64)> {
+        let step = |action| Step { action, bits: 32 };
+        match (relocation.kind(), relocation.target()) {
+            (RelocationKind::GotBaseRelative, _) => Some((step(Action::Relative), 0)),
+            (RelocationKind::GotBaseOffset, _) => Some((step(Action::Absolute), self.known(relocation, outside)?)),
+            (RelocationKind::Got | RelocationKind::Elf(elf::R_386_GOT32X), RelocationTarget::Symbol(index)) => {
+                Some((step(Action::Absolute), outside.pointer(index)))
+            }
+            _ => None,
+        }
     }
 
     /// The address of the symbol that a relocation names, or the one that stands for it.

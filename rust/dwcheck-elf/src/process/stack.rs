@@ -31,14 +31,15 @@ pub use instruction::Instruction;
 pub use listed::Listed;
 pub use text::Lines;
 
-use crate::debug::variables::{Shape, Variables};
+use crate::debug::variables::{Shape, TailCall, Variables};
+use crate::elf::mapped::Bytes;
 use crate::process::core_file::{CoreFile, Files, Memory, Module, Thread};
 use crate::process::symbol_store::SymbolModule;
 use crate::process::without_row::Growth;
 use both_ends::Walked;
 use dwcheck::{Block, Registers};
 use lost::Lost;
-use std::cell::RefCell;
+use std::cell::{Cell, RefCell};
 use std::collections::{BTreeMap, BTreeSet, HashMap};
 use std::fmt;
 use std::path::{Path, PathBuf};
@@ -48,6 +49,10 @@ use walker::Walker;
 /// A sensible limit for [`Stacks::walk`]. A stack with more frames is most likely corrupt, or in a
 /// loop.
 pub const MOST_FRAMES: usize = 10_000;
+
+/// After how many walks the pages of the file with the stacks are given back. To do it after each would take the kernel
+/// longer than the walks, since it looks at all that was ever read of the file.
+const WALKS: usize = 32;
 
 /// A process that died: its memory and its modules.
 ///
@@ -67,6 +72,10 @@ pub const MOST_FRAMES: usize = 10_000;
 pub struct Stacks<'a> {
     core: &'a CoreFile<'a>,
     memory: Memory<'a>,
+    /// The file that has the memory of threads, if its pages are given back.
+    mapped: Option<Bytes>,
+    /// How many stacks were walked.
+    walked: Cell<usize>,
     /// All blocks of the memory, after a place for the stack of the thread that is walked: the first block that has an
     /// address is the one that is found fastest.
     blocks: RefCell<Vec<Block<'a>>>,
@@ -83,6 +92,9 @@ pub struct Stacks<'a> {
     names: RefCell<HashMap<usize, Names<'a>>>,
     /// The debug information of each module of whose frames the variables were asked for, by its index.
     variables: RefCell<HashMap<usize, Option<Variables<'a>>>>,
+    /// The functions that ended with a jump between a call and the function that it reached, by the module's index, the
+    /// address after the call, and one in the function.
+    tail_calls: RefCell<HashMap<(usize, u64, u64), Vec<TailCall>>>,
     /// The modules of which debug information is in files that aren't read, and what is said of one of these.
     split: RefCell<BTreeMap<PathBuf, String>>,
     /// The modules of which the debug information that they share with others isn't there.
@@ -106,6 +118,9 @@ pub struct WalkOptions {
     pub scans: bool,
     /// Whether to store the registers of each frame.
     pub keeps_registers: bool,
+    /// Whether to add the frames of functions that ended with a jump, where call sites of the debug information prove
+    /// them. They come beside those up to the limit.
+    pub finds_tail_calls: bool,
     /// How many of the outermost frames a stack has beside those up to the limit. If it is 0, the walk ends at the
     /// limit. Else it goes on, to at most 1,048,576 frames.
     pub outermost: usize,
@@ -204,7 +219,14 @@ pub enum StackError {
 
 impl Default for WalkOptions {
     fn default() -> Self {
-        WalkOptions { limit: MOST_FRAMES, is_strict: false, scans: false, keeps_registers: false, outermost: 0 }
+        WalkOptions {
+            limit: MOST_FRAMES,
+            is_strict: false,
+            scans: false,
+            keeps_registers: false,
+            finds_tail_calls: false,
+            outermost: 0,
+        }
     }
 }
 
@@ -237,6 +259,8 @@ impl<'a> Stacks<'a> {
             core,
             blocks: RefCell::new(std::iter::once(Block::new(0, &[])).chain(blocks).collect()),
             memory,
+            mapped: None,
+            walked: Cell::new(0),
             lost: Lost::of(core, files),
             symbols: Vec::new(),
             unread: unread.collect(),
@@ -245,6 +269,7 @@ impl<'a> Stacks<'a> {
             name_options: NameOptions::default(),
             names: RefCell::default(),
             variables: RefCell::default(),
+            tail_calls: RefCell::default(),
             split: RefCell::default(),
             unshared: RefCell::default(),
             shape: None,
@@ -282,6 +307,22 @@ impl<'a> Stacks<'a> {
         }
     }
 
+    /// Says which file the core or the minidump is. Its pages are given back now and then: nearly all of them are
+    /// stacks, each of which is read for one thread alone.
+    pub fn use_mapped(&mut self, file: &Bytes) {
+        file.give_back(0..file.len());
+        self.mapped = Some(file.clone());
+    }
+
+    /// Counts a walk, and gives back the pages of the core or the minidump after some.
+    fn count_walk(&self) {
+        let walked = self.walked.get() + 1;
+        self.walked.set(walked);
+        if let Some(file) = self.mapped.as_ref().filter(|_| walked % WALKS == 0) {
+            file.give_back(0..file.len());
+        }
+    }
+
     /// The files that can't be read; after walks, the parts of their unwind tables that the walks
     /// needed but that can't be used; after frames were named, the files of debug information that
     /// can't be used; and, after variables were asked for, what has debug information that isn't read; each
@@ -309,6 +350,7 @@ impl<'a> Stacks<'a> {
     ///
     /// If the thread has no instruction pointer, or `dwcheck` gives an error.
     pub fn walk<'s>(&'s self, thread: &Thread, options: WalkOptions) -> Result<Stack<'s, 'a>, StackError> {
+        self.count_walk();
         let abi = self.core.abi();
         let registers: Registers = thread.registers.iter().copied().collect();
         let address = thread.register(abi.program_counter).ok_or(StackError::NoInstructionPointer)?;
@@ -328,7 +370,10 @@ impl<'a> Stacks<'a> {
             signed_bits: self.core.signed_bits(),
             growth: Growth::default(),
         };
-        let Walked { frames, left_out, stop } = walker.walk(address, registers).map_err(StackError::Dwcheck)?;
+        let walked = walker.walk(address, registers).map_err(StackError::Dwcheck)?;
+        drop(blocks);
+        let walked = if options.finds_tail_calls { self.with_tail_calls(walked) } else { walked };
+        let Walked { frames, left_out, stop } = walked;
         Ok(Stack { stacks: self, thread: u64::from(thread.id), frames, left_out, stop })
     }
 

@@ -43,6 +43,9 @@ pub enum FoundBy {
     Context,
     /// By a row of an unwind table.
     Row,
+    /// Its function ended with a jump (a tail call), which left no frame on the stack. The call sites of the debug
+    /// information prove that this is the only way from the caller to the frame before.
+    TailCall,
     /// By a row of a symbol file. Unlike those of unwind tables, these rows weren't checked.
     SymbolRow,
     /// A guess: the frame that it called isn't at an executable address, so a call led there. On
@@ -62,7 +65,7 @@ pub enum FoundBy {
 impl FoundBy {
     /// Whether the frame is a guess.
     pub fn is_guess(self) -> bool {
-        !matches!(self, FoundBy::Thread | FoundBy::Context | FoundBy::Row | FoundBy::SymbolRow)
+        !matches!(self, FoundBy::Thread | FoundBy::Context | FoundBy::Row | FoundBy::TailCall | FoundBy::SymbolRow)
     }
 }
 
@@ -72,6 +75,7 @@ impl fmt::Display for FoundBy {
             FoundBy::Thread => "thread",
             FoundBy::Context => "context",
             FoundBy::Row => "row",
+            FoundBy::TailCall => "tail call",
             FoundBy::SymbolRow => "symbol row",
             FoundBy::Call => "call",
             FoundBy::FramePointer => "frame pointer",

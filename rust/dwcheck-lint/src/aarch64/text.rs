@@ -113,9 +113,9 @@ impl Word {
                 Some(format!("b.{} {:#x}", CONDITIONS[self.bits(3, 0) as usize], target))
             }
             Effect::JumpIf { target, .. } => Some(self.test_text(target)),
-            Effect::Return if self.0 == 0xd65f_03c0 => Some("ret".to_string()),
-            Effect::Return if self.0 == 0xd65f_0bff => Some("retaa".to_string()),
-            Effect::Return if self.0 == 0xd65f_0fff => Some("retab".to_string()),
+            Effect::Return { .. } if self.0 == 0xd65f_03c0 => Some("ret".to_string()),
+            Effect::Return { .. } if self.0 == 0xd65f_0bff => Some("retaa".to_string()),
+            Effect::Return { .. } if self.0 == 0xd65f_0fff => Some("retab".to_string()),
             Effect::Jump { .. } if self.bits(23, 10) == 0x7c0 => Some(format!("br {}", self.x(5))),
             Effect::Call { .. } if self.bits(23, 10) == 0xfc0 => Some(format!("blr {}", self.x(5))),
             Effect::System { .. } => Some(format!("svc #{:#x}", self.bits(20, 5))),

@@ -175,7 +175,7 @@ impl Head<'_> {
 
 #[cfg(test)]
 mod tests {
-    use super::super::{by_zydis, instruction_of_decoded};
+    use super::super::PROCESSOR;
     use super::*;
 
     /// Bytes after a ModRM byte that make each form of a SIB byte, with a displacement and an immediate number.
@@ -191,7 +191,7 @@ mod tests {
             for sib in SIBS.into_iter().take(if has_sib { SIBS.len() } else { 1 }) {
                 bytes[begin.len()..begin.len() + 2].copy_from_slice(&[modrm, sib]);
                 if let Some(found) = decode_common(&bytes, 0x1000) {
-                    assert_eq!(instruction_of_decoded(&found), by_zydis(&bytes, 0x1000).0, "{:x?}", bytes);
+                    assert_eq!(PROCESSOR.instruction(&found), PROCESSOR.by_zydis(&bytes, 0x1000).0, "{:x?}", bytes);
                     count += 1;
                 }
             }

@@ -7,6 +7,7 @@ mod common;
 mod aarch64;
 mod assumptions;
 mod compiled;
+mod i386;
 mod instructions;
 mod planted;
 mod quiet;

@@ -14,9 +14,18 @@ while frame is not None:
 end
 ";
 
-/// The lines of frames that `dwcheck-elf stack` writes, without the numbers.
+/// The lines of frames that `dwcheck-elf stack` writes, without the numbers, and without functions that ended with a jump.
 pub fn frames(out: &str) -> Vec<&str> {
-    out.lines().filter_map(|line| line.strip_prefix('#')?.split_once(' ')).map(|(_, rest)| rest).collect()
+    let mut found: Vec<&str> = Vec::new();
+    for (_, frame) in out.lines().filter_map(|line| line.strip_prefix('#')?.split_once(' ')) {
+        if frame.ends_with(" tail call") {
+            let inlined = found.iter().rev().take_while(|frame| frame.contains(" inlined")).count();
+            found.truncate(found.len() - inlined);
+        } else {
+            found.push(frame);
+        }
+    }
+    found
 }
 
 /// The addresses of lines of frames.

@@ -15,13 +15,14 @@ class Element {
   select() { this.isSelected = true; }
   blur() { document.activeElement = null; }
   add() {}
+  replaceChildren(...children) { this.children = children; }
   getBoundingClientRect() { return { left: 0, top: 0, width: 1000, height: 400 }; }
   // What is drawn isn't looked at.
   getContext() { return new Proxy({}, { get: () => () => {}, set: () => true }); }
 }
 
 const elements = {};
-const document = { activeElement: null, getElementById: id => (elements[id] ||= new Element()) };
+const document = { activeElement: null, createElement: () => new Element(), getElementById: id => (elements[id] ||= new Element()) };
 const location = { hash: process.argv[4] ?? "" };
 const history = { replaceState: (state, title, address) => { location.hash = address === "#" ? "" : address; } };
 const window = Object.assign(new Element(), { innerWidth: 1000, innerHeight: 400, devicePixelRatio: 1, location, history });

@@ -62,6 +62,13 @@ impl<'a> Units<'a> {
         Ok(Units { dwarf, headers, in_info, read, types, shared, skeleton: None, definitions })
     }
 
+    /// The units of `.debug_info` with these headers, which are ascending by their offsets.
+    pub fn of_headers(dwarf: Dwarf<Slice<'a>>, headers: Vec<UnitHeader<Slice<'a>>>) -> Self {
+        let (read, types, definitions) = (RefCell::default(), RefCell::default(), Definitions::default());
+        let in_info = headers.len();
+        Units { dwarf, headers, in_info, read, types, shared: None, skeleton: None, definitions }
+    }
+
     /// Reads the headers of the units of a file that has the rest of a unit (`-gsplit-dwarf`).
     pub fn read_split(dwarf: Dwarf<Slice<'a>>, skeleton: Rc<Unit<Slice<'a>>>) -> Result<Self, gimli::Error> {
         Ok(Units { skeleton: Some(skeleton), ..Units::read(dwarf, None)? })
@@ -106,7 +113,7 @@ impl<'a> Units<'a> {
     }
 
     /// The index of the unit that begins at an offset.
-    pub(super) fn index_of(&self, offset: UnitSectionOffset<usize>) -> Option<usize> {
+    pub(in crate::debug) fn index_of(&self, offset: UnitSectionOffset<usize>) -> Option<usize> {
         let headers = match offset {
             UnitSectionOffset::DebugInfoOffset(_) => 0..self.in_info,
             UnitSectionOffset::DebugTypesOffset(_) => self.in_info..self.headers.len(),

@@ -58,6 +58,11 @@ impl Covers {
         Covers::of(self.ranges.iter().cloned().chain(others).collect())
     }
 
+    /// The ranges of addresses with their units.
+    pub fn ranges(&self) -> &[(Range<u64>, usize)] {
+        &self.ranges
+    }
+
     /// Whether the unit at an offset has addresses here.
     pub fn has(&self, unit: usize) -> bool {
         self.units.binary_search(&unit).is_ok()

@@ -1,16 +1,17 @@
 //! The debug information of a program, as `addr2line` takes it: a unit at a time, or all units where one refers to
 //! others. All units of a large library would take much more memory than those that a stack needs.
 
-use crate::debug::debug_info::Slice;
+use crate::debug::debug_info::{Slice, Units, UnitsByAddress};
 use crate::debug::inlined::{Covers, Info};
 use crate::elf::compressed::SectionBytes;
 use crate::elf::debug_files::DebugFiles;
 use crate::elf::mapped::Bytes;
 use crate::elf::program::Program;
-use gimli::{Dwarf, EndianSlice, Reader, SectionId, Unit, UnitHeader, UnitSectionOffset};
+use gimli::{DebugInfoOffset, Dwarf, EndianSlice, Reader, SectionId, Unit, UnitHeader, UnitSectionOffset};
 use once_cell::unsync::OnceCell;
 use rustc_hash::FxHashMap;
 use std::cell::RefCell;
+use std::ops::Range;
 use std::sync::Arc;
 
 /// How deep the entries of a unit may be. `addr2line` reads functions that are inlined in each other by calls in each
@@ -84,6 +85,20 @@ impl<'a> Contexts<'a> {
         let covers = info.covers(&Covers::listed(program));
         let (units, whole) = (RefCell::default(), OnceCell::new());
         Some(Contexts { sections, shared, info, file, covers, units, whole })
+    }
+
+    /// All units, without what files share.
+    pub fn all_units(&self) -> Option<UnitsByAddress<'a>> {
+        let units = Units::of_headers(load(&self.sections)?, self.info.headers.clone());
+        let indexed =
+            |(range, unit): &(Range<u64>, usize)| Some((range.clone(), units.index_of(DebugInfoOffset(*unit).into())?));
+        let ranges = self.covers.ranges().iter().filter_map(indexed).collect();
+        Some(UnitsByAddress { units, ranges })
+    }
+
+    /// Gives back the memory of what was read of the file that has `.debug_info`.
+    pub fn give_back(&self) {
+        self.file.iter().for_each(|file| file.give_back(0..file.len()));
     }
 
     /// What is found first in the units that cover an address.

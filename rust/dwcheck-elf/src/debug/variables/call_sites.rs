@@ -91,7 +91,7 @@ fn is_same_function(one: &Die<'_, '_>, other: &Die<'_, '_>) -> bool {
 }
 
 /// The call site of a function that returns to an address.
-fn call_site_returning_to<'u, 'a>(function: &Die<'u, 'a>, return_address: u64) -> Option<Die<'u, 'a>> {
+pub(super) fn call_site_returning_to<'u, 'a>(function: &Die<'u, 'a>, return_address: u64) -> Option<Die<'u, 'a>> {
     let unit = Rc::clone(&function.unit);
     let mut entries = unit.entries_raw(Some(function.offset)).ok()?;
     loop {
@@ -115,7 +115,7 @@ fn call_site_returning_to<'u, 'a>(function: &Die<'u, 'a>, return_address: u64) -
 }
 
 /// Where a call site returns to.
-fn return_address_of_site(site: &Die<'_, '_>) -> Option<u64> {
+pub(super) fn return_address_of_site(site: &Die<'_, '_>) -> Option<u64> {
     let value = site.attribute(gimli::DW_AT_call_return_pc).or_else(|| site.attribute(gimli::DW_AT_low_pc))?;
     site.units.dwarf.attr_address(&site.unit, value).ok()?
 }

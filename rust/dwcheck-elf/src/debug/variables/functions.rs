@@ -32,8 +32,13 @@ impl FunctionIndex {
             }
             ranges.extend(found.into_iter().map(|range| (range, index)));
         }
-        ranges.sort_by_key(|(range, _)| range.start);
-        FunctionIndex { units: ranges, functions: RefCell::default() }
+        FunctionIndex::of_ranges(ranges)
+    }
+
+    /// The units with these ranges of addresses, by their indexes.
+    pub fn of_ranges(mut units: Vec<(Range<u64>, usize)>) -> Self {
+        units.sort_by_key(|(range, _)| range.start);
+        FunctionIndex { units, functions: RefCell::default() }
     }
 
     /// The function with an address of code.

@@ -38,7 +38,7 @@ fn value_as_json(of: &Value) -> Json {
         Value::Text { address, text, .. } => json!({ "address": address, "text": text }),
         Value::Pointer(name, of) => json!({ "points_to": name, "value": value_as_json(of) }),
         Value::Reference(address, of) => json!({ "address": address, "value": part(of) }),
-        Value::Members(members) => members.iter().map(|(name, member)| (name.clone(), part(member))).collect(),
+        Value::Members(members, _) => members.iter().map(|(name, member)| (name.clone(), part(member))).collect(),
         Value::Elements(elements, _) => elements.iter().map(part).collect(),
         Value::Entries(entries, _) => {
             entries.iter().map(|(key, value)| json!({ "key": part(key), "value": part(value) })).collect()

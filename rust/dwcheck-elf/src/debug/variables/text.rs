@@ -58,14 +58,14 @@ impl fmt::Display for Value {
                 write!(f, "@{}: ", address)?;
                 write_value_text(f, value)
             }
-            Value::Members(members) => {
+            Value::Members(members, more) => {
                 f.write_str("{")?;
                 for (index, (name, value)) in members.iter().enumerate() {
                     let comma = if index > 0 { ", " } else { "" };
                     write!(f, "{}{}{}", comma, Escaped(name), if name.is_empty() { "" } else { " = " })?;
                     write_value_text(f, value)?;
                 }
-                f.write_str("}")
+                write_rest(f, members.len(), *more)
             }
             Value::Elements(elements, more) => {
                 f.write_str("{")?;
@@ -91,7 +91,7 @@ impl fmt::Display for Value {
     }
 }
 
-/// How many elements aren't shown.
+/// How many members or elements aren't shown.
 fn write_rest(f: &mut fmt::Formatter<'_>, shown: usize, more: u64) -> fmt::Result {
     match more {
         0 => f.write_str("}"),

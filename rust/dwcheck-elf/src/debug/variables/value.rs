@@ -38,8 +38,8 @@ pub enum Value {
     Pointer(Option<String>, Box<Value>),
     /// A reference: the address of what it refers to, and the value of that.
     Reference(String, Box<Result<Value, Missing>>),
-    /// The members of a structure or union with their names.
-    Members(Vec<(String, Result<Value, Missing>)>),
+    /// The members of a structure or union with their names, and how many more there are.
+    Members(Vec<(String, Result<Value, Missing>)>, u64),
     /// The elements of an array or a container, and how many more there are.
     Elements(Vec<Result<Value, Missing>>, u64),
     /// The keys of a container with their values, and how many more there are.
@@ -180,8 +180,9 @@ impl<'v, 'a> Locator<'v, 'a> {
                 _ => all.push(child),
             }
         }
-        let mut members = Vec::new();
-        for member in all.into_iter().filter(is_member_entry) {
+        all.retain(is_member_entry);
+        let (mut members, count) = (Vec::new(), all.len());
+        for member in all {
             if *left == 0 {
                 break;
             }
@@ -192,7 +193,8 @@ impl<'v, 'a> Locator<'v, 'a> {
             });
             members.push((name, self.member_value(&member, part, inner, left)));
         }
-        Ok(Value::Members(members))
+        let more = (count - members.len()) as u64;
+        Ok(Value::Members(members, more))
     }
 
     fn member_value(

@@ -2,7 +2,7 @@
 
 use crate::debug::inlined;
 use crate::debug::lines::{At, Lines, SourceLine};
-use crate::debug::variables::Called;
+use crate::debug::variables::{CallSites, Called, TailCall};
 use crate::elf::debug_files::{build_id_hex, DebugFiles};
 use crate::elf::demangle::{raw_name, shown_name, without_version, STUB};
 use crate::elf::function_offset::FunctionOffset;
@@ -248,6 +248,26 @@ impl<'a> Names<'a> {
             called.iter().zip(calls).map(|(one, source)| At { name: one.name.clone(), source }).collect();
         found.reverse();
         self.position_of(address, looked_up, found, options)
+    }
+
+    /// The jumps at the ends of functions between the call that returns to an address and the function that has the
+    /// address `reached`, if call sites prove them.
+    pub(crate) fn tail_calls(&self, return_address: u64, reached: u64) -> Vec<TailCall> {
+        let lines = match &self.debug {
+            Debug::Lines(lines) => lines,
+            _ => return Vec::new(),
+        };
+        let named = |name: &str| self.address_of(name);
+        let sites = lines.all_units().map(CallSites::of);
+        let found = sites.map(|sites| sites.tail_calls(return_address, reached, named));
+        lines.give_back();
+        found.unwrap_or_default()
+    }
+
+    /// The address of the function that has a name in the file.
+    fn address_of(&self, name: &str) -> Option<u64> {
+        let mut named = self.functions.all().iter().filter(|function| without_version(&function.name) == name);
+        named.next().map(|function| function.begin)
     }
 
     /// The name of the function at whose first address a call leads, if what it reached is in another function. `None`

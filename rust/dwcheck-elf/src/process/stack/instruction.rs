@@ -16,7 +16,7 @@ pub struct Instruction {
     /// Its bytes. If it isn't known where it ends, the bytes that could be its, at most 15. Empty if
     /// they aren't known.
     pub bytes: Vec<u8>,
-    /// Its text as assemblers read it, if it is an instruction of x86-64, or one of aarch64 that
+    /// Its text as assemblers read it, if it is an instruction of x86-64 or i386, or one of aarch64 that
     /// changes a frame.
     pub text: Option<String>,
 }

@@ -1,6 +1,6 @@
 //! Writes stacks as text.
 
-use super::{Frame, Position, SourceLine, Stack, Stop};
+use super::{FoundBy, Frame, Position, SourceLine, Stack, Stop};
 use crate::cfi::text::{Address, Escaped};
 use dwcheck_types::target::Target;
 use std::fmt;
@@ -92,6 +92,9 @@ impl<'s, 'a> Stack<'s, 'a> {
         write_file_and_line(f, &module, &source)?;
         if frame.found_by.is_guess() {
             write!(f, " guess: {}", frame.found_by)?;
+        }
+        if frame.found_by == FoundBy::TailCall {
+            write!(f, " {}", frame.found_by)?;
         }
         writeln!(f)?;
         self.write_registers(f, frame)?;

@@ -6,11 +6,12 @@
 use super::gimli_rows::readable;
 use super::{found, has, Folder, Found};
 
-/// An assembler, by the compiler that runs it.
-pub struct Assembler(pub &'static str);
+/// An assembler, by the compiler that runs it, and the option that says for which machine.
+pub struct Assembler(pub &'static str, &'static str);
 
-pub const X86_64: Assembler = Assembler("gcc");
-pub const AARCH64: Assembler = Assembler("aarch64-linux-gnu-gcc");
+pub const X86_64: Assembler = Assembler("gcc", "-m64");
+pub const I386: Assembler = Assembler("gcc", "-m32");
+pub const AARCH64: Assembler = Assembler("aarch64-linux-gnu-gcc", "");
 
 /// A function with its body, and text after it.
 pub fn function(body: &str, after: &str) -> String {
@@ -30,9 +31,10 @@ fn variant(text: &str, kept: &str, dropped: &str) -> String {
 impl Assembler {
     /// What is found in a function. `None` if the assembler isn't installed.
     pub fn found(&self, name: &str, body: &str, after: &str) -> Option<Found> {
-        let folder = Folder::new(&format!("{}-{}", self.0, name));
+        let Assembler(compiler, option) = self;
+        let folder = Folder::new(&format!("{}{}-{}", compiler, option, name));
         folder.write("text.s", &readable(&function(body, after)));
-        has(self.0).then(|| found(&folder, &format!("{} -nostdlib -shared -o out text.s", self.0)))
+        has(compiler).then(|| found(&folder, &format!("{} {} -nostdlib -shared -o out text.s", compiler, option)))
     }
 
     /// The defect of a function is found, by its kind and nothing else, and nothing is found without it.

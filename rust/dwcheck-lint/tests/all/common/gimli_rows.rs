@@ -181,6 +181,7 @@ fn imports<'a>(file: &object::File<'a>) -> HashMap<u64, &'a str> {
 /// The module in an ELF file. Only `.eh_frame` is read.
 pub fn module(data: &[u8]) -> Module<'_> {
     let file = object::File::parse(data).unwrap();
+    let machine = Machine::numbered(u16::from_le_bytes([data[18], data[19]])).unwrap();
     let mut segments: Vec<_> = file
         .segments()
         .map(|segment| Segment { address: segment.address(), bytes: segment.data().unwrap(), is_executable: true })
@@ -189,7 +190,7 @@ pub fn module(data: &[u8]) -> Module<'_> {
     let section = file.section_by_name(".eh_frame").unwrap();
     let bases = BaseAddresses::default().set_eh_frame(section.address());
     let mut frames = EhFrame::new(section.data().unwrap(), LittleEndian);
-    frames.set_address_size(8);
+    frames.set_address_size(machine.address_bytes);
     let headers = headers(&frames, &bases);
     let area = |address: u64| {
         let segment = segments.iter().rev().find(|segment| segment.address <= address).unwrap();
@@ -198,7 +199,7 @@ pub fn module(data: &[u8]) -> Module<'_> {
     let fde = |header: &Header<'_>| {
         let begin = header.initial_address();
         let landings = match header.lsda() {
-            Some(Pointer::Direct(address)) => landings(area(address), begin),
+            Some(Pointer::Direct(address)) => landings(area(address), begin, machine.address_bytes),
             _ => Vec::new(),
         };
         let argument_bytes = argument_bytes(header, &frames, &bases);
@@ -207,7 +208,6 @@ pub fn module(data: &[u8]) -> Module<'_> {
         Fde { begin, end, is_signal, is_called: false, landings, argument_bytes, signed }
     };
     let fdes = headers.iter().map(fde).collect();
-    let machine = Machine::numbered(u16::from_le_bytes([data[18], data[19]])).unwrap();
     let rows = GimliRows { machine, section: frames, bases, headers, context: RefCell::default() };
     Module {
         machine,

@@ -6,6 +6,7 @@
 
 mod associations;
 mod cxx;
+mod deques;
 mod fields;
 mod libcxx;
 mod libstdcxx;
@@ -18,6 +19,7 @@ use crate::debug::debug_info::Die;
 use crate::debug::variables::location::Locator;
 use crate::debug::variables::scopes::{die_id, DieId};
 use associations::Association;
+use deques::{Blocks, Circle};
 use fields::{base_of_name, Field};
 use owners::{Choice, Optional, Owner};
 use sequences::{Bits, Row, ShortText, Text};
@@ -45,6 +47,12 @@ enum Layout<'v, 'a> {
     Choice(Choice<'v, 'a>),
     /// Keys, with values or without.
     Association(Association<'v, 'a>),
+    /// Elements in blocks elsewhere.
+    Blocks(Blocks<'v, 'a>),
+    /// Elements next to each other, elsewhere, of which the first one comes after the last place.
+    Circle(Circle<'v, 'a>),
+    /// Members, by their places.
+    Fields(Vec<Field<'v, 'a>>),
 }
 
 /// The layouts of the types that were looked up, by the types' entries. `None` for a type that isn't a container.
@@ -90,6 +98,12 @@ impl<'v, 'a> Locator<'v, 'a> {
             Layout::Optional(optional) => self.optional(optional, part, inner, left),
             Layout::Choice(choice) => self.choice(choice, part, inner, left),
             Layout::Association(association) => self.association(association, part, inner, left),
+            Layout::Blocks(blocks) => self.blocks(blocks, part, inner, left),
+            Layout::Circle(circle) => self.circle(circle, part, inner, left),
+            Layout::Fields(fields) => {
+                let value = |field: &Field<'v, 'a>| self.value_of_part(&field.kind, field.part(part), inner, left);
+                Some(Value::Elements(fields.iter().map(value).collect(), 0))
+            }
             _ => None,
         }
     }

@@ -29,6 +29,8 @@ pub(super) enum Walk<'v, 'a> {
     Tree { root: Field<'v, 'a>, left: Field<'v, 'a>, right: Field<'v, 'a> },
     /// In nodes each of which leads to the next one.
     Chain { first: Field<'v, 'a>, next: Field<'v, 'a> },
+    /// In nodes each of which leads to the next one, and the last one to the container's own part.
+    Ring { first: Field<'v, 'a>, next: Field<'v, 'a>, header: Field<'v, 'a> },
     /// Before bytes each of which says whether an element of a size is there. The mask is the number of the last one.
     Places { control: Field<'v, 'a>, mask: Field<'v, 'a>, size: u64 },
 }
@@ -64,7 +66,14 @@ impl<'v, 'a> Locator<'v, 'a> {
         let shown = self.shown(count, inner, *left);
         let (nodes, are_all) = match &association.walk {
             Walk::Tree { root, left, right } => self.nodes_of_tree(self.word(root, part)?, [left, right], shown)?,
-            Walk::Chain { first, next } => self.nodes_of_chain(self.word(first, part)?, next, shown)?,
+            Walk::Chain { first, next } => self.nodes_of_chain(self.word(first, part)?, next, (0, shown))?,
+            Walk::Ring { first, next, header } => {
+                let own = match part.place {
+                    ValueLocation::Memory(own) => own.wrapping_add(header.part(part).offset as u64),
+                    _ => return None,
+                };
+                self.nodes_of_chain(self.word(first, part)?, next, (self.machine.target.wrap(own), shown))?
+            }
             Walk::Places { control, mask, size } => {
                 let (control, mask) = (self.word(control, part)?, self.word(mask, part)?);
                 self.elements_in_places(control, mask, *size, shown)?
@@ -124,15 +133,15 @@ impl<'v, 'a> Locator<'v, 'a> {
         }
     }
 
-    /// The first nodes of a chain.
-    fn nodes_of_chain(&self, first: u64, next: &Field<'v, 'a>, most: usize) -> Option<Found> {
+    /// The first nodes of a chain, which ends at an address.
+    fn nodes_of_chain(&self, first: u64, next: &Field<'v, 'a>, (end, most): (u64, usize)) -> Option<Found> {
         let mut found = Vec::new();
         let mut node = first;
-        while node != 0 && found.len() < most {
+        while node != end && found.len() < most {
             found.push(node);
             node = self.pointer_of_node(next, node)?;
         }
-        Some((found, node == 0))
+        Some((found, node == end))
     }
 
     /// The elements in the first places of a hash table. A place has one if the highest bit of its byte isn't set.

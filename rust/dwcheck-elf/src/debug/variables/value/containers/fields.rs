@@ -149,6 +149,16 @@ fn template_number(class: &Die<'_, '_>, name: &str) -> Option<u64> {
     number_attribute(&child(class, gimli::DW_TAG_template_value_parameter, name)?, gimli::DW_AT_const_value)
 }
 
+/// The base of a class that has a name, without what its template is made for.
+pub(super) fn base_with_name<'v, 'a>(class: &Die<'v, 'a>, name: &str) -> Option<Die<'v, 'a>> {
+    let bases = unqualified_type(class)?.children();
+    let bases = bases.iter().filter(|one| one.tag() == Some(gimli::DW_TAG_inheritance)).filter_map(type_of);
+    bases.filter_map(|base| unqualified_type(&base)).find(|base| {
+        let found = base.name();
+        found.map_or(false, |found| base_of_name(&found) == name)
+    })
+}
+
 /// A constant that is a member of a class.
 pub(super) fn constant_of_class(class: &Die<'_, '_>, name: &str) -> Option<u64> {
     let has_value = |die: &Die<'_, '_>, name: DwAt| die.attribute(name).is_some();

@@ -82,7 +82,7 @@ pub(super) fn unique_ptr<'v, 'a>(whole: &Field<'v, 'a>) -> Option<Layout<'v, 'a>
     Some(Layout::Owner(Owner { target, counts: None }))
 }
 
-/// `std::shared_ptr`, whose counts are those of further owners.
+/// `std::shared_ptr` and `std::weak_ptr`, whose counts are those of further owners.
 pub(super) fn shared_ptr<'v, 'a>(whole: &Field<'v, 'a>) -> Option<Layout<'v, 'a>> {
     let pointer = whole.member("__ptr_").filter(Field::is_pointer)?;
     let control = whole.member("__cntrl_")?;

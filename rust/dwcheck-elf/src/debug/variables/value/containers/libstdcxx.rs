@@ -2,7 +2,8 @@
 
 use super::associations::{Association, Entry, Walk};
 use super::cxx::Entries;
-use super::fields::{base_of_name, named_type, target_of, template_type, Field};
+use super::deques::{Blocks, InBlock};
+use super::fields::{base_of_name, base_with_name, named_type, target_of, template_type, Field};
 use super::owners::{Choice, Counts, Optional, Owner, Target, MAX_CHOICES};
 use super::sequences::{Bits, Length, Room, Row, Text};
 use super::Layout;
@@ -89,7 +90,7 @@ pub(super) fn unique_ptr<'v, 'a>(whole: &Field<'v, 'a>) -> Option<Layout<'v, 'a>
     Some(Layout::Owner(Owner { target, counts: None }))
 }
 
-/// `std::shared_ptr`.
+/// `std::shared_ptr` and `std::weak_ptr`.
 pub(super) fn shared_ptr<'v, 'a>(whole: &Field<'v, 'a>) -> Option<Layout<'v, 'a>> {
     let pointer = whole.member("_M_ptr").filter(Field::is_pointer)?;
     let control = whole.path(&["_M_refcount", "_M_pi"])?;
@@ -98,6 +99,38 @@ pub(super) fn shared_ptr<'v, 'a>(whole: &Field<'v, 'a>) -> Option<Layout<'v, 'a>
     let counts = Counts { control, uses, weak, uses_from: 0, weak_from: 1 };
     let target = Target::pointer(pointer, template_type(&whole.kind, "_Tp"));
     Some(Layout::Owner(Owner { target, counts: Some(counts) }))
+}
+
+/// `std::tuple`: each element is in a base that is made for its index. The bases of bases say how many there are.
+pub(super) fn tuple<'v, 'a>(whole: &Field<'v, 'a>) -> Option<Layout<'v, 'a>> {
+    let rest = |class: &Die<'v, 'a>| base_with_name(class, "_Tuple_impl");
+    let count = std::iter::successors(rest(&whole.kind), rest).take(MAX_CHOICES).count() as u64;
+    let elements = (0..count).map(|index| whole.member_of_base(index, "_M_head_impl"));
+    let elements: Vec<_> = elements.collect::<Option<_>>()?;
+    (!elements.is_empty()).then_some(Layout::Fields(elements))
+}
+
+/// `std::list`: a ring of nodes, which the list itself closes.
+pub(super) fn list<'v, 'a>(whole: &Field<'v, 'a>) -> Option<Layout<'v, 'a>> {
+    let header = whole.path(&["_M_impl", "_M_node"])?;
+    let node = Field::whole(&named_type(&whole.kind, "_Node")?);
+    let walk = Walk::Ring { first: header.member("_M_next")?, next: node.member("_M_next")?, header: header.clone() };
+    let entry = Entry { key: stored(&node.member("_M_storage")?)?, value: None };
+    Some(Layout::Association(Association { count: header.member("_M_size")?, walk, entry }))
+}
+
+/// `std::deque`.
+pub(super) fn deque<'v, 'a>(whole: &Field<'v, 'a>) -> Option<Layout<'v, 'a>> {
+    let storage = whole.member("_M_impl")?;
+    let place = |name: &str| {
+        let place = storage.member(name)?;
+        let pointer = |name: &str| place.member(name).filter(Field::is_pointer);
+        let (current, first) = (pointer("_M_cur")?, pointer("_M_first")?);
+        Some(InBlock { current, first, last: pointer("_M_last")?, block: pointer("_M_node")? })
+    };
+    let (begin, end) = (place("_M_start")?, place("_M_finish")?);
+    let element = begin.current.target()?;
+    Some(Layout::Blocks(Blocks { begin, end, element }))
 }
 
 /// `std::map`, `std::set`, and those that may have equal keys.

@@ -76,7 +76,9 @@ impl<'v, 'a> Locator<'v, 'a> {
                 (self.machine.target.wrap(value.after(block)), Some(value.kind.clone()))
             }
         };
-        let kind = kind.filter(|kind| address != 0 && type_size(kind).is_some());
+        // What a pointer watched that has no owner any more is gone.
+        let is_gone = matches!(counts, Some((0, _)));
+        let kind = kind.filter(|kind| address != 0 && !is_gone && type_size(kind).is_some());
         let value = match kind {
             Some(kind) => self.reference_to(address, &kind, shape, left),
             None => Value::Scalar(format!("{:#x}", address)),
@@ -134,12 +136,12 @@ impl<'v, 'a> Locator<'v, 'a> {
         match chosen {
             Some((name, field)) => {
                 let value = self.value_of_part(&field.kind, field.part(part), inner, left);
-                Some(Value::Members(vec![(name.clone(), value)]))
+                Some(Value::Members(vec![(name.clone(), value)], 0))
             }
             // All bits are set if an exception left no value.
             None => {
                 let bits = 8 * choice.index.size().filter(|size| (1..=8).contains(size))? as u32;
-                (index == u64::MAX >> (64 - bits)).then(|| Value::Members(Vec::new()))
+                (index == u64::MAX >> (64 - bits)).then(|| Value::Members(Vec::new(), 0))
             }
         }
     }

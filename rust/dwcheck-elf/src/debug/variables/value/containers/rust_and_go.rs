@@ -1,6 +1,7 @@
 //! How Rust's standard library and Go keep what their containers hold.
 
 use super::associations::{Association, Entry, Walk};
+use super::deques::{Circle, Extent};
 use super::fields::{template_type, Field};
 use super::owners::{Counts, Owner, Target};
 use super::sequences::{Length, Room, Row, Text};
@@ -19,6 +20,7 @@ pub(super) fn layout<'v, 'a>(name: &str, whole: &Field<'v, 'a>) -> Option<Layout
     match base_of_name(name) {
         "String" => string(whole),
         "Vec" => vector(whole).map(Layout::Row),
+        "VecDeque" => vector_deque(whole),
         "Rc" | "Arc" => shared(whole),
         "HashMap" => hash_map(whole, Field::member(whole, "base").as_ref().unwrap_or(whole)),
         "HashSet" => hash_set(whole),
@@ -47,6 +49,21 @@ fn vector<'v, 'a>(whole: &Field<'v, 'a>) -> Option<Row<'v, 'a>> {
     let room = unwrapped(&buffer.member("cap")?, &["__0"])?;
     let (length, element) = (whole.member("len")?, template_type(&whole.kind, "T")?);
     Some(Row { first, length: Length::Count(length), room: Length::Count(room), element })
+}
+
+/// `VecDeque`. Up to Rust 1.66 it has the place of the first element and the one after the last; then the number of
+/// elements.
+fn vector_deque<'v, 'a>(whole: &Field<'v, 'a>) -> Option<Layout<'v, 'a>> {
+    let buffer = whole.member("buf")?;
+    let buffer = buffer.member("inner").unwrap_or(buffer);
+    let first = unwrapped(&buffer.member("ptr")?, &["pointer"]).filter(Field::is_pointer)?;
+    let (room, element) = (unwrapped(&buffer.member("cap")?, &["__0"])?, template_type(&whole.kind, "T")?);
+    let (begin, extent) = match (whole.member("len"), whole.member("tail")) {
+        (Some(length), None) => (whole.member("head")?, Extent::Count(length)),
+        (None, Some(tail)) => (tail, Extent::End(whole.member("head")?)),
+        _ => return None,
+    };
+    Some(Layout::Circle(Circle { first, begin, extent, room, element }))
 }
 
 /// `String`, which is a vector of bytes.

@@ -4,7 +4,6 @@
 //! decoded by its own bytes alone, so the same bytes do the same, unless the address is part of what they say.
 
 use crate::instruction::{Effect, Instruction};
-use std::cell::RefCell;
 
 /// The most bytes of an instruction that is remembered.
 const LONGEST: usize = 8;
@@ -15,7 +14,8 @@ const ENTRIES: u32 = 15;
 /// For how many beginnings of instructions a length is remembered, as a power of 2.
 const LENGTHS: u32 = 14;
 
-struct Remembered {
+/// Instructions that were decoded before.
+pub(crate) struct Remembered {
     /// The bytes of instructions, above which the words have zeros. They are apart from the instructions, so that
     /// they stay in a cache of the processor.
     words: Vec<u64>,
@@ -24,30 +24,24 @@ struct Remembered {
     lengths: Vec<u8>,
 }
 
-thread_local! {
-    static REMEMBERED: RefCell<Remembered> = RefCell::new(Remembered::new());
-}
-
-/// The instruction at the first byte, as `decode` gives it together with whether its address matters.
-pub(super) fn remembered_instruction(bytes: &[u8], decode: impl FnOnce() -> (Instruction, bool)) -> Instruction {
-    let word = match bytes.get(..LONGEST).and_then(|bytes| bytes.try_into().ok()) {
-        Some(word) => u64::from_le_bytes(word),
-        None => return decode().0,
-    };
-    REMEMBERED.with(|remembered| {
-        let mut remembered = remembered.borrow_mut();
-        remembered.find(word).unwrap_or_else(|| {
-            let (instruction, has_address) = decode();
-            if !has_address && usize::from(instruction.length) <= LONGEST {
-                remembered.add(word, instruction);
-            }
-            instruction
-        })
-    })
-}
-
 impl Remembered {
-    fn new() -> Self {
+    /// The instruction at the first byte, as `decode` gives it together with whether its address matters.
+    pub fn instruction(&mut self, bytes: &[u8], decode: impl FnOnce() -> (Instruction, bool)) -> Instruction {
+        let word = match bytes.get(..LONGEST).and_then(|bytes| bytes.try_into().ok()) {
+            Some(word) => u64::from_le_bytes(word),
+            None => return decode().0,
+        };
+        if let Some(found) = self.find(word) {
+            return found;
+        }
+        let (instruction, has_address) = decode();
+        if !has_address && usize::from(instruction.length) <= LONGEST {
+            self.add(word, instruction);
+        }
+        instruction
+    }
+
+    pub fn new() -> Self {
         let none = Instruction { length: 0, effect: Effect::Invalid };
         let (words, instructions) = (vec![0; 1 << ENTRIES], vec![none; 1 << ENTRIES]);
         Remembered { words, instructions, lengths: vec![0; 1 << LENGTHS] }
@@ -88,10 +82,11 @@ mod tests {
 
     #[test]
     fn bytes_that_follow_do_not_matter() {
+        let mut remembered = Remembered::new();
         let push = Instruction { length: 1, effect: Effect::PushFlags };
-        let decoded = |bytes: [u8; 8], effect| {
+        let mut decoded = |bytes: [u8; 8], effect| {
             let mut is_decoded = false;
-            let found = remembered_instruction(&bytes, || {
+            let found = remembered.instruction(&bytes, || {
                 is_decoded = true;
                 (Instruction { effect, ..push }, false)
             });
