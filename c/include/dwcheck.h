@@ -33,9 +33,9 @@
      meanwhile.
    - The stack is large enough. As measured on x86-64, dwcheck_backtrace and dwcheck_backtrace_cached take 1.7 KB,
      dwcheck_unwind 7.2 KB and dwcheck_cursor_step 1.6 KB; if a rule is an expression, 3.7, 7.6 and 3.6 KB; and the
-     first two take 18 KB if a register of 96 or more is known. dwcheck_row_in and dwcheck_step_in take 53 KB, and so
-     does dwcheck_rows_fill where a row isn't compact; else it takes 5 KB, as dwcheck_rows_fill_compact does (7 KB
-     where that is unsure). dwcheck_process_add takes 50 KB, dwcheck_module_check 45 KB, dwcheck_check and
+     first two take 18 KB if a register of 96 or more is known. dwcheck_row_in and dwcheck_step_in take 53 KB, and
+     dwcheck_rows_fill 50 KB where a row isn't compact; else it takes 3.2 KB, as dwcheck_rows_fill_compact does.
+     dwcheck_process_add takes 52 KB, dwcheck_module_check and dwcheck_module_left_out 48 KB, dwcheck_check and
      dwcheck_report 40 KB, dwcheck_cursor_step_with 21 KB, dwcheck_evaluate 12 KB, dwcheck_process_share 5 KB, and
      every other call less than 4 KB. A first call may take 3 KB more, in a program with libdwcheck.a that isn't
      linked with -Wl,-z,now.

@@ -80,7 +80,8 @@ inline dwcheck_module module_of(const std::uint8_t *frame, std::size_t frame_len
     return module;
 }
 
-// The same with an .eh_frame section, whose first byte is at this address as linked.
+// The same with an .eh_frame section, whose first byte is at this address as linked. Set DWCHECK_LEAVE_OUT in its kind to
+// leave bad records out.
 inline dwcheck_module eh_module_of(const std::uint8_t *frame, std::size_t frame_length, std::uint64_t section_address,
                                    std::uint64_t load_address, std::uint32_t order = DWCHECK_LITTLE,
                                    std::uint32_t address_size = 8) noexcept {
