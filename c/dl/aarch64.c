@@ -172,18 +172,20 @@ bool dwcheck_dl_follows_call(uint64_t address) {
     return is_among(calls, sizeof calls / sizeof *calls, word);
 }
 
-/* An entry of a procedure linkage table, for which linkers write no rows: bti c; adrp x16; ldr x17, [x16, ..];
-   add x16, x16, ..; autia1716; br x17; and nop. The first entry saves x30 before that. */
-static bool is_in_linkage_table(uint64_t address) {
-    enum { LONGEST = 6, BRANCH = 0xd61f0220, SAVES = 0xa9bf7bf0 };
+/* How many bytes an entry of a procedure linkage table has pushed, for which linkers write no rows; -1 if no such entry
+   has this code. It is: bti c; adrp x16; ldr x17, [x16, ..]; add x16, x16, ..; autia1716; br x17; and nop. The first entry
+   begins with stp x16, x30, [sp, #-16]!. */
+static int pushed_in_linkage_table(uint64_t address) {
+    enum { LONGEST = 7, BRANCH = 0xd61f0220, SAVES = 0xa9bf7bf0, SAVED = 16 };
     static const struct pattern entry[] = {{0xffffffff, 0xd503245f}, {0x9f00001f, 0x90000010}, {0xffc003ff, 0xf9400211},
                                            {0xffc003ff, 0x91000210}, {0xffffffff, 0xd503219f}, {0xffffffff, 0xd503201f}};
     const uint32_t *at = (const uint32_t *)(uintptr_t)address;
     int before = 0, after = 0;
-    if (!dwcheck_dl_is_readable(address - LONGEST * INSTRUCTION) || !dwcheck_dl_is_readable(address + LONGEST * INSTRUCTION)) return false;
+    if (!dwcheck_dl_is_readable(address - LONGEST * INSTRUCTION) || !dwcheck_dl_is_readable(address + LONGEST * INSTRUCTION)) return -1;
+    if (at[0] == SAVES) after++;
     while (after < LONGEST && is_among(entry, sizeof entry / sizeof *entry, at[after])) after++;
     while (before < LONGEST - 1 && is_among(entry, sizeof entry / sizeof *entry, at[-1 - before])) before++;
-    return at[after] == BRANCH && at[-1 - before] != SAVES;
+    return at[after] != BRANCH ? -1 : at[0] != SAVES && at[-1 - before] == SAVES ? SAVED : 0;
 }
 
 static bool is_in_vdso(uint64_t address) {
@@ -191,8 +193,9 @@ static bool is_in_vdso(uint64_t address) {
     return dwcheck_dl_find(address, &object) && object.first == getauxval(AT_SYSINFO_EHDR);
 }
 
-bool dwcheck_dl_is_without_frame(uint64_t address) {
-    return address % INSTRUCTION == 0 && dwcheck_dl_is_readable(address) && (is_in_linkage_table(address) || is_in_vdso(address));
+int dwcheck_dl_pushed_without_row(uint64_t address) {
+    if (address % INSTRUCTION != 0 || !dwcheck_dl_is_readable(address)) return -1;
+    return is_in_vdso(address) ? 0 : pushed_in_linkage_table(address);
 }
 
 /* The call has put it into x30. */

@@ -86,9 +86,9 @@ DWCHECK_DL_HIDDEN bool dwcheck_dl_is_nowhere(const ucontext_t *context);
 /* Whether a call ends at an address. */
 DWCHECK_DL_HIDDEN bool dwcheck_dl_follows_call(uint64_t address);
 
-/* Whether code for which no row is, and which was interrupted, has no frame: it leaves the stack pointer and the return
-   address as a call left them. */
-DWCHECK_DL_HIDDEN bool dwcheck_dl_is_without_frame(uint64_t address);
+/* How many bytes the code at an address has pushed since it was called, if it is code for which no row is, but that is
+   known to do nothing else to the stack, and to leave the return address where a call puts it; else -1. */
+DWCHECK_DL_HIDDEN int dwcheck_dl_pushed_without_row(uint64_t address);
 
 /* Where a call that has done nothing else returns to; 0 if that can't be read. */
 DWCHECK_DL_HIDDEN uint64_t dwcheck_dl_return_address(const dwcheck_dl_place *place, dwcheck_block *stack);

@@ -153,13 +153,14 @@ static bool has_row(struct dwcheck_dl_walk *walk, uint64_t return_address) {
    can be executed; or code without a frame. In place of a call there may have been a return to a wrong address: so the
    address must follow a call, and be one of code with rows, unless it was a null pointer. */
 static bool leave_call(struct dwcheck_dl_walk *walk) {
-    const uint64_t called = walk->place.address;
-    const bool is_null = called < PAGE;
+    const bool is_null = walk->place.address < PAGE;
     if (!is_interrupted(walk)) return false;
-    if (!is_null && !dwcheck_dl_is_nowhere(walk->interrupted) && !dwcheck_dl_is_without_frame(called)) return false;
+    const int pushed = is_null || dwcheck_dl_is_nowhere(walk->interrupted) ? 0 : dwcheck_dl_pushed_without_row(walk->place.address);
+    if (pushed < 0) return false;
     const uint64_t address = dwcheck_dl_return_address(&walk->place, &walk->stack);
     if (!dwcheck_dl_follows_call(address) || (!is_null && !has_row(walk, address))) return false;
     dwcheck_dl_leave_call(&walk->place, address);
+    walk->place.stack_pointer += (uint64_t)pushed;
     walk->mark = DWCHECK_DL_BY_CALL;
     return true;
 }

@@ -121,7 +121,7 @@ bool dwcheck_dl_follows_call(uint64_t address) {
 }
 
 /* Linkers write rows for procedure linkage tables, and the vDSO has some. */
-bool dwcheck_dl_is_without_frame(uint64_t address) { return (void)address, false; }
+int dwcheck_dl_pushed_without_row(uint64_t address) { return (void)address, -1; }
 
 /* The call has pushed it. */
 uint64_t dwcheck_dl_return_address(const dwcheck_dl_place *place, dwcheck_block *stack) {

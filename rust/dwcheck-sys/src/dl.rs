@@ -73,11 +73,7 @@ extern "C" {
     ) -> c_int;
 
     /// The same with the registers and the CFA of each frame.
-    pub fn dwcheck_dl_frames(
-        request: *mut DlRequest,
-        frames: *mut DlFrame,
-        size: c_int,
-    ) -> c_int;
+    pub fn dwcheck_dl_frames(request: *mut DlRequest, frames: *mut DlFrame, size: c_int) -> c_int;
 
     /// Learns where the calling thread's own stack is, so that its walks don't ask the kernel.
     /// Not for signal handlers.

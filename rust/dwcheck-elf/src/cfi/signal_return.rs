@@ -27,7 +27,7 @@ pub fn section<'data>(program: &Program<'_>) -> Option<FrameSection<'data>> {
     }
     let image = program.image();
     let code = image.parts.iter().filter(|part| part.is_executable);
-    let address = code.filter_map(|part| Some(part.address.checked_add(place_in(&part.bytes)? as u64)?)).next()?;
+    let address = code.filter_map(|part| part.address.checked_add(place_in(&part.bytes)? as u64)).next()?;
     // A walk looks a caller up at the address before it.
     let bytes = section_for(address.checked_sub(INSTRUCTION)?, INSTRUCTION + CODE.len() as u64);
     let source = Section { bytes: Cow::Owned(bytes), address: 0, unresolved: Vec::new() };

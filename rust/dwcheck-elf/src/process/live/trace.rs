@@ -58,7 +58,7 @@ impl Stopped {
         let bytes = self.register_set(libc::NT_PRSTATUS as usize)?;
         let mut held = registers::read_general_registers(&bytes, target, abi).ok()?;
         // Other machines have no such set.
-        let pointer = self.register_set(NT_ARM_TLS).and_then(|bytes| Some(bytes.get(..8)?.try_into().ok()?));
+        let pointer = self.register_set(NT_ARM_TLS).and_then(|bytes| bytes.get(..8)?.try_into().ok());
         if let Some(pointer) = pointer {
             registers::add_thread_pointer(&mut held, abi, u64::from_ne_bytes(pointer));
         }
