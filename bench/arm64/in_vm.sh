@@ -80,13 +80,6 @@ live() { # WORD..: a program that prints the frames of the process whose id come
     same_as_gdb 5
 }
 
-# Those of both threads have the values that the program has stored. gdb doesn't find them in a core file.
-thread_variables() { # KIND
-    core_of "threads-$1"
-    "$elf" stack --vars core > variables
-    grep 'own: .* = 2\b' variables && grep 'tenfold: .* = 20\b' variables || { grep 'own\|tenfold' variables; false; }
-}
-
 # Samples of a program with their stacks: perf's and ours have `often` in as many.
 profiled() { # KIND
     perf record -q -e cpu-clock -F 200 --call-graph dwarf -o perf.data "$tests/profiler-$1" > /dev/null || return 1
@@ -103,7 +96,6 @@ for kind in plain signed; do
     test_of "$kind: the example attach beside gdb" live "$tests/attach-$kind"
     test_of "$kind: dwcheck-elf stack of a core file beside gdb" core_of_threads $kind
     test_of "$kind: dwcheck-elf stack through a signal's handler beside gdb" through_handler $kind
-    test_of "$kind: variables of threads are what the program has stored" thread_variables $kind
     test_of "$kind: dwcheck-elf profile of a recording of perf" profiled $kind
 done
 test_of "signed: stacks, also where a return address is in its register, are glibc's" "$tests/dl_signed-signed"

@@ -43,7 +43,6 @@ compile() {
         done
         aarch64-linux-gnu-gcc -g -O0 -pthread $signing "$top/examples/rust/crash.c" -o "$folder/test/dies-$kind"
         aarch64-linux-gnu-gcc -g -O1 $signing -fno-optimize-sibling-calls "$top/bench/arm64/handler.c" -o "$folder/test/handler-$kind"
-        aarch64-linux-gnu-gcc -g -O0 $signing "$top/bench/arm64/threads.c" -pthread -o "$folder/test/threads-$kind"
     done
     cp "$top/bench/arm64/in_vm.sh" "$top/bench/arm64/init" "$top/examples/c/compare.py" "$built/dwcheck" "$built/dwcheck-elf" "$folder/test/"
 }
