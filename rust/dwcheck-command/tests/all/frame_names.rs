@@ -387,8 +387,8 @@ fn a_tail_call_is_marked_where_gdb_knows_one() {
             folder.run("strip -g root$PWD/program");
         }
         let shown = folder.run("gdb --batch -x frames.gdb program core 2> /dev/null | grep -E '^(jumped|frame) '");
-        let own: Vec<_> = shown.lines().filter_map(|line| line.rsplit_once(' ')).map(|(frame, _)| frame).collect();
-        let own: Vec<_> = own.into_iter().take_while(|frame| *frame != "frame main").collect();
+        let own = shown.lines().filter_map(|line| line.rsplit_once(' ')).map(|(frame, _)| frame);
+        let own: Vec<_> = own.take_while(|frame| *frame != "frame main").collect();
         assert_eq!(own, ["frame last", "jumped second", "jumped first", "frame calls", "jumped jumps"], "{}", shown);
         let ran = dwcheck_elf(&folder, "stack --root root --no-source core");
         let names = ran.lines().into_iter().filter(|line| line.starts_with('#') || line.starts_with("tail call"));
