@@ -51,9 +51,9 @@ pages := $(patsubst man/%.md,$(out)/man/%,$(wildcard man/*.md))
 
 .PHONY: all but_elf try test packages dist install clean FORCE
 
-all: $(built) $(out)/dwcheck-elf $(pages)
+all: but_elf $(out)/dwcheck-elf
 
-but_elf: $(built)
+but_elf: $(built) $(pages)
 
 try:
 	@tools/try.sh

@@ -54,8 +54,8 @@ class Counts:
 class Stage:
     """A part of the tests: a command, how to count in what it prints, which lines tell how far it is,
     and the events for which it waits: `below`, when `rt ci` has proved the crates that the library
-    uses; `proved`, when it has proved all that is built; or the end of the stage `proofs`, `archive` or
-    `build`."""
+    uses; `proved`, when it has proved all that is built; or the end of the stage `proofs`, `archive`,
+    `build` or `optimized`."""
 
     name: str
     what: str
@@ -135,12 +135,14 @@ STAGES = [
           after=(), environment=RUST),
     Stage("archive", "the library for C, which is proved while it is built", "tools/build.sh archive && echo 'ok archive' || echo 'FAILED archive'",
           counted_lines, after=("below",)),
-    Stage("build", "the programs and the libraries", "make -s all && echo 'ok build' || echo 'FAILED build'", counted_lines,
-          progress="^(proving .*)", after=("proved", "archive")),
+    Stage("build", "the libraries, the program dwcheck, and the manual pages", "make -s but_elf && echo 'ok build' || echo 'FAILED build'",
+          counted_lines, progress="^(proving .*)", after=("proved", "archive")),
+    Stage("optimized", "the program dwcheck-elf as it is installed", "make -s build/dwcheck-elf && [ -x build/dwcheck-elf ] && echo 'ok optimized' || echo 'FAILED optimized'",
+          counted_lines),
     Stage("rust", "rust/dwcheck and its documentation, also under valgrind", "rust/dwcheck/run.sh", counted_by_cargo,
           environment=RUST),
     Stage("pages", "the commands in README.md and docs/", "bench/pages.py build/dwcheck --elf build/dwcheck-elf --slow", counted_pages,
-          progress="^(.*): [0-9]+ commands, .*"),
+          progress="^(.*): [0-9]+ commands, .*", after=("build", "optimized")),
     Stage("elf", "the program dwcheck-elf and its libraries", f"cd rust && ./cargo.sh test {ELF} --lib --bins --tests && ./cargo.sh test {ELF} --doc",
           counted_by_cargo,
           environment=RUST | {"DWCHECK": str(BUILD / "dwcheck")}),
@@ -309,7 +311,7 @@ class Gate:
 
     def __init__(self, stages, reporter):
         self.stages, self.reporter = stages, reporter
-        self.events = {name: Event() for name in ("below", "proved", "proofs", "archive", "build")}
+        self.events = {name: Event() for name in ("below", "proved", "proofs", "archive", "build", "optimized")}
         # What no stage of this run does has been done before.
         for name in self.events.keys() - {stage.name for stage in stages} - {"below", "proved"}:
             self.events[name].happens()
