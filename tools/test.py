@@ -159,7 +159,7 @@ STAGES = [
           counted_lines, progress="^(ok .*)"),
     Stage("arm64", "what is built for aarch64, under qemu-user", "tests/arm64/run.sh", counted_lines, progress="^(ok .*)"),
     Stage("examples", "frames of the examples beside those of gdb and eu-stack", "examples/run.sh", counted_lines,
-          progress="^(ok .*)", environment=RUST),
+          progress="^(ok .*)", after=("build", "optimized"), environment=RUST),
 ]
 
 
