@@ -181,14 +181,13 @@ typedef struct dwcheck_module {
    module's id. Ids count up from 1, so a process doesn't give an id twice while it is open, even if the module is
    removed. A process that dwcheck_process_share makes counts on from the same number, so of two processes that share
    modules, only one should get new ones. No two modules may answer for the same address. Returns DONE; or the first of
-   these for which there is a reason: TOO_LONG; BAD_KIND; BAD_TARGET; REFUSED with the first fault of the section,
-   or with DWCHECK_LEAVE_OUT of the section as a whole;
-   BAD_RANGE; OVERLAPS, and then `id` becomes the id of a module whose range shares an address with this one's;
-   NO_ROOM. NO_MEMORY may come in place of any but the first three. BAD_RANGE means that `first` is above `last` or
-   `last` is 2^w or more; or that has_range is 0, and the section covers no address, or covers addresses on both sides
-   of the highest one, 2^w - 1, as loaded. Only DONE changes the process; OVERLAPS also writes `id`. The call takes O(n
-   log n) time, where n is the number of bytes of the section's programs and of its rows, and moves the entries of the
-   modules that lie at higher addresses. */
+   these for which there is a reason: TOO_LONG; BAD_KIND; BAD_TARGET; REFUSED with the first fault of the section, or
+   with DWCHECK_LEAVE_OUT of the section as a whole; BAD_RANGE; OVERLAPS, and then `id` becomes the id of a module whose
+   range shares an address with this one's; NO_ROOM. NO_MEMORY may come in place of any but the first three. BAD_RANGE
+   means that `first` is above `last` or `last` is 2^w or more; or that has_range is 0, and the section covers no
+   address, or covers addresses on both sides of the highest one, 2^w - 1, as loaded. Only DONE changes the process;
+   OVERLAPS also writes `id`. The call takes O(n log n) time, where n is the number of bytes of the section's programs
+   and of its rows, and moves the entries of the modules that lie at higher addresses. */
 uint32_t dwcheck_process_add(dwcheck_process *process, const dwcheck_module *module, uint64_t *id, dwcheck_fault *fault);
 
 /* Removes the module with this id. Returns DONE; or NONE if no module has it. The call allocates nothing, and frees
@@ -441,8 +440,8 @@ typedef struct dwcheck_header { const uint8_t *bytes; size_t length; uint64_t ad
    and 0x3b), or shorter than its table.
 
    If a check without DWCHECK_LEAVE_OUT accepts the section, and the table leads to all its FDEs, this is the row that
-   the check gives. A wrong
-   table leads to no row, or to one of other bytes that read as an FDE which covers the address. */
+   the check gives. A wrong table leads to no row, or to one of other bytes that read as an FDE which covers the
+   address. */
 uint32_t dwcheck_row_in(const dwcheck_module *module, const dwcheck_header *header, uint64_t address, dwcheck_row *row,
                         dwcheck_rule *rules, size_t rules_length, uint32_t *is_signal_frame, dwcheck_fault *fault);
 
