@@ -105,7 +105,7 @@ dialect-lines start target d code =
     (which (code == 0x2e) H _ _
     (which (has_args_size d) H _ _ (without start target (unsigned ∷ []) (λ vs. Instruction.nop) (λ vs end. tt)) (unknown start target))
     (which (code == 0x2d || code == 0x2c) H _ _
-    (which (is_aarch64 d) H _ _ (without start target [] (λ vs. Instruction.nop) (λ vs end. tt)) (unknown start target))
+    (which (is_aarch64 d) H _ _ (without start target [] (λ vs. Instruction.negate_ra_state) (λ vs end. tt)) (unknown start target))
     (extended-lines start target code)))
 
 all-lines : (start : ℕ) (target : Target) (d : Dialect) (code : ℕ) → Holds start target (line_of d code)

@@ -17,9 +17,9 @@ pub struct UnwindExpression<'a> {
 }
 
 /// A call frame instruction with its operands as they are encoded (DWARF 5, sections 6.4.2 and
-/// 7.24). A `delta` isn't yet multiplied by the CIE's code alignment factor, nor is a
-/// `factored_offset` by its data alignment factor. An `offset` is in bytes. A register number is a
-/// column number of the unwind table.
+/// 7.24), or an instruction of aarch64. A `delta` isn't yet multiplied by the CIE's code alignment
+/// factor, nor is a `factored_offset` by its data alignment factor. An `offset` is in bytes. A
+/// register number is a column number of the unwind table.
 #[derive(Clone, Copy, Debug)]
 pub enum CallFrameInstruction<'a> {
     /// `DW_CFA_advance_loc`: the location advances by a delta of six bits.
@@ -133,4 +133,9 @@ pub enum CallFrameInstruction<'a> {
         register: u16,
         expression: UnwindExpression<'a>,
     },
+    /// `DW_CFA_AARCH64_negate_ra_state` and `DW_CFA_AARCH64_negate_ra_state_with_pc`, which only
+    /// programs of `.eh_frame` for aarch64 have: from here on the return address is signed if it
+    /// wasn't, and isn't if it was (DWARF for the Arm 64-bit Architecture, section 4.4.1). It changes
+    /// no rule.
+    NegateRaState,
 }

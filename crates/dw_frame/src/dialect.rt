@@ -3,9 +3,8 @@
 ghost use Rattle.std.specs.Prelude.{◌≡◌};
 ghost use Rattle.dw_frame.specs.Dialects.{has_args_size, is_aarch64, has_plain_addresses};
 
-/// Which codes a program may use besides DWARF's, and which of DWARF's it may not. The vendor codes
-/// are read as nop: no rule of a row depends on them. It is one byte, so that a `Program` takes no
-/// more room.
+/// Which codes a program may use besides DWARF's, and which of DWARF's it may not. No rule of a row
+/// depends on a vendor's code. It is one byte, so that a `Program` takes no more room.
 #[derive(Clone, Copy, Debug)]
 pub enum Dialect {
     /// `.debug_frame`: the codes of DWARF, and no other.

@@ -69,7 +69,7 @@ pub fn instruction_effect(
     ensures { effect_by result ≡ effect_of (cie_of cie.now) (instruction_of instruction.entry) }
 {
     match instruction {
-        CallFrameInstruction::Nop => InstructionEffect::Stays,
+        CallFrameInstruction::Nop | CallFrameInstruction::NegateRaState => InstructionEffect::Stays,
         CallFrameInstruction::AdvanceLoc { delta } => advance_effect(cie, u32::from(delta)),
         CallFrameInstruction::AdvanceLoc1 { delta } => advance_effect(cie, u32::from(delta)),
         CallFrameInstruction::AdvanceLoc2 { delta } => advance_effect(cie, u32::from(delta)),

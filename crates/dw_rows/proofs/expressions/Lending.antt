@@ -123,6 +123,7 @@ effect-lent es cie (Instruction.advance_loc a) found = tt
 effect-lent es cie (Instruction.offset a b) found = tt
 effect-lent es cie (Instruction.restore a) found = tt
 effect-lent es cie Instruction.nop found = tt
+effect-lent es cie Instruction.negate_ra_state found = tt
 effect-lent es cie (Instruction.set_loc a) found = tt
 effect-lent es cie (Instruction.advance_loc1 a) found = tt
 effect-lent es cie (Instruction.advance_loc2 a) found = tt

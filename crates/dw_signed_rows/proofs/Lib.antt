@@ -1,0 +1,4 @@
+mod SignatureSteps
+mod Programs
+mod Ranges
+mod Sections
