@@ -14,6 +14,7 @@ use Rattle.dw_bytes.specs.declared.target.AddressSize.TheVariants.{Four}
 use Rattle.dw_bytes.specs.declared.target.Order.TheVariants.{Little}
 use Rattle.dw_process.specs.declared.address_range.AddressRange.{AddressRange}
 use Rattle.dw_process.specs.declared.loaded_module.LoadedModule.{LoadedModule}
+use Rattle.dw_process.specs.Marks.{no_marks}
 use Rattle.dw_process.specs.ModuleMaps.{AreInOrder, IsBelow, IsPlaceFor, IsProper, IsStartCount, first_of, is_in, module_at}
 
 -- ---- the first element that passes a test
@@ -54,7 +55,7 @@ some_module = record {
   load_address = 0;
   range = record { first = 0; last = 0 };
   rows = record { target = record { order = Little; address_size = Four }; rows = []; bytes = 0 };
-  signals = [];
+  marks = no_marks;
 }
 
 module _ (modules : List LoadedModule) (order : AreInOrder modules) where

@@ -1,6 +1,6 @@
 -- A module whose rows come from an `.eh_frame` section: what adding it makes of a process, and why
 -- it isn't added.
-use Rattle.std.specs.Prelude.{◌≡◌, ◌⊎◌, ℕ, List, Option, Some, None}
+use Rattle.std.specs.Prelude.{◌≡◌, ◌⊎◌, ◌&&◌, ℕ, Bool, List, Option, Some, None}
 use Rattle.dw_bytes.specs.Answers.{memory, values_in}
 use Rattle.dw_bytes.specs.declared.fault.Fault.{Fault}
 use Rattle.dw_bytes.specs.declared.target.Target.{Target}
@@ -10,6 +10,9 @@ use Rattle.dw_eh_rows.specs.Signals.{signal_frames}
 use Rattle.dw_eh_rows.specs.declared.signals.SignalRange.{SignalRange}
 use Rattle.dw_eh_frame.specs.Records.{eh_records_of}
 use Rattle.dw_rows.specs.Section.{FrameSection, IsChecked}
+use Rattle.dw_signed_rows.specs.SignedRanges.{has_signed}
+use Rattle.dw_signed_rows.specs.SignedSections.{is_signed_of}
+use Rattle.dw_process.specs.Marks.{Marks}
 use Rattle.dw_process.specs.Processes.{IsAddedWith, ProcessState}
 use Rattle.dw_process.specs.Refusals.{IsRefusedWith}
 use Rattle.dw_process.specs.declared.address_range.AddressRange.{AddressRange}
@@ -33,12 +36,20 @@ pub record IsFrameOf (s : EhSection) (target : Target) (frame : FrameSection) : 
 abbrev pub signals_of : EhSection → Target → List SignalRange
 signals_of s target = signal_frames (values_in (eh_records_of s.is_aarch64 s.bases target s.bytes.now))
 
--- A module with the rows and the signal frames of the section is added.
+-- Whether the return address is signed in the row of an address as linked. Only programs for aarch64 say so.
+abbrev pub is_signed_by : EhSection → FrameSection → ℕ → Bool
+is_signed_by s frame a = s.is_aarch64 && is_signed_of frame a
+
+-- A module with the rows of the section is added, with its signal frames, and with the addresses at which
+-- return addresses are signed.
 pub record IsEhAdded (s : EhSection) (load_address : ℕ) (given : Option AddressRange) (cookie room : ℕ) (old : ProcessState) (id : ℕ)
     (new : ProcessState) : Type 0 where
   pub frame : FrameSection
   pub is : IsFrameOf s old.target frame
-  pub rows : IsAddedWith frame (signals_of s old.target) load_address given cookie room old id new
+  pub marks : Marks
+  pub signals : marks.signals ≡ signals_of s old.target
+  pub signed : (a : ℕ) → has_signed marks.signed a ≡ is_signed_by s frame a
+  pub rows : IsAddedWith frame marks load_address given cookie room old id new
 
 -- the fault is the first one of the section
 abbrev pub IsEhFault : EhSection → Target → Fault → Type 0
@@ -76,12 +87,15 @@ pub record IsKeptFrameOf (s : EhSection) (target : Target) (frame : FrameSection
 abbrev pub kept_signals_of : EhSection → Target → List SignalRange
 kept_signals_of s target = signal_frames (kept_of s.is_aarch64 s.bases target s.bytes.now).kept
 
--- A module with the rows and the signal frames of what is kept is added.
+-- A module with the rows and the marks of what is kept is added.
 pub record IsAddedLeavingOut (s : EhSection) (load_address : ℕ) (given : Option AddressRange) (cookie room : ℕ) (old : ProcessState) (id : ℕ)
     (new : ProcessState) : Type 0 where
   pub frame : FrameSection
   pub is : IsKeptFrameOf s old.target frame
-  pub rows : IsAddedWith frame (kept_signals_of s old.target) load_address given cookie room old id new
+  pub marks : Marks
+  pub signals : marks.signals ≡ kept_signals_of s old.target
+  pub signed : (a : ℕ) → has_signed marks.signed a ≡ is_signed_by s frame a
+  pub rows : IsAddedWith frame marks load_address given cookie room old id new
 
 -- the fault is that of the section as a whole
 abbrev pub IsWholeFault : EhSection → Target → Fault → Type 0

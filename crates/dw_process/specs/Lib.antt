@@ -1,3 +1,5 @@
+-- what a module's section says of its addresses besides their rows
+pub mod Marks
 -- modules in order of address, and the module of an address
 pub mod ModuleMaps
 -- the modules of a process: how adding and removing changes them, and the row of an address

@@ -5,12 +5,13 @@ use Rattle.std.specs.List.{insert, sum_by}
 use Rattle.std.specs.Option.{option_and_then, option_map}
 use Rattle.dw_bytes.specs.declared.target.Target.{Target}
 use Rattle.dw_eh_rows.specs.Signals.{is_signal_at}
-use Rattle.dw_eh_rows.specs.declared.signals.SignalRange.{SignalRange}
 use Rattle.dw_rules.specs.Rules.{Row}
 use Rattle.dw_rows.specs.Section.{FrameSection, frame_of, section_fault}
 use Rattle.dw_tables.specs.UnwindTables.{IsTableOf, RowTable, expression_bytes, row_at}
 use Rattle.dw_rows.specs.RowLookups.{IsRowUnder}
+use Rattle.dw_signed_rows.specs.SignedRanges.{has_signed}
 use Rattle.dw_unwind.specs.Modules.{as_linked}
+use Rattle.dw_process.specs.Marks.{Marks, no_marks}
 use Rattle.dw_process.specs.ModuleMaps.{AreInOrder, IsPlaceFor, is_in, module_at}
 use Rattle.dw_process.specs.Ranges.{IsRangeFor}
 use Rattle.dw_process.specs.declared.address_range.AddressRange.{AddressRange}
@@ -58,14 +59,14 @@ pub record IsReady (frame : FrameSection) (load_address : ℕ) (given : Option A
   pub place : IsPlaceFor ready.range modules ready.place
 
 -- A table of the rows of a checked section is added, at some place, to the modules, which are in
--- order of address. The new module has the id `id`, which is counted up, and these signal frames.
+-- order of address. The new module has the id `id`, which is counted up, and these marks.
 -- What the table stores is at most `room` bytes (`IsStored`).
-pub record IsAddedWith (frame : FrameSection) (signals : List SignalRange) (load_address : ℕ) (given : Option AddressRange) (cookie room : ℕ) (old : ProcessState) (id : ℕ)
+pub record IsAddedWith (frame : FrameSection) (marks : Marks) (load_address : ℕ) (given : Option AddressRange) (cookie room : ℕ) (old : ProcessState) (id : ℕ)
     (new : ProcessState) : Type 0 where
   pub added : LoadedModule
   pub table : IsStored frame room added.rows
   pub range : IsRangeFor frame load_address given added.range
-  pub signals_are : added.signals ≡ signals
+  pub marks_are : added.marks ≡ marks
   pub load_address_is : added.load_address ≡ load_address
   pub cookie_is : added.cookie ≡ cookie
   pub id_is : added.id ≡ id
@@ -81,7 +82,7 @@ pub record IsAddedWith (frame : FrameSection) (signals : List SignalRange) (load
 pub record IsAdded (section : List ℕ) (load_address : ℕ) (given : Option AddressRange) (cookie room : ℕ) (old : ProcessState) (id : ℕ)
     (new : ProcessState) : Type 0 where
   pub accepted : section_fault old.target section ≡ None
-  pub rows : IsAddedWith (frame_of old.target section) [] load_address given cookie room old id new
+  pub rows : IsAddedWith (frame_of old.target section) no_marks load_address given cookie room old id new
 
 -- the modules without the one with this id
 abbrev pub without : ℕ → List LoadedModule → List LoadedModule
@@ -106,10 +107,18 @@ row_in p address = option_and_then (λ m. row_of_module m address) (module_at p.
 -- whether an address as loaded is one of a signal frame of the module whose range contains it
 abbrev pub is_signal_in_module : Option LoadedModule → ℕ → Bool
 is_signal_in_module None address = false
-is_signal_in_module (Some m) address = is_signal_at m.signals (as_linked m.rows.target m.load_address address)
+is_signal_in_module (Some m) address = is_signal_at m.marks.signals (as_linked m.rows.target m.load_address address)
 
 abbrev pub is_signal_in : ProcessState → ℕ → Bool
 is_signal_in p address = is_signal_in_module (module_at p.modules address) address
+
+-- whether the return address is signed at an address as loaded, by the module whose range contains it
+abbrev pub is_signed_in_module : Option LoadedModule → ℕ → Bool
+is_signed_in_module None address = false
+is_signed_in_module (Some m) address = has_signed m.marks.signed (as_linked m.rows.target m.load_address address)
+
+abbrev pub is_signed_in : ProcessState → ℕ → Bool
+is_signed_in p address = is_signed_in_module (module_at p.modules address) address
 
 -- a row and its return address register, with what is known of their module, whose target is given
 abbrev pub found_with : Target → LoadedModule → Row × ℕ → FoundRow

@@ -1,14 +1,22 @@
 //! Modules whose rows come from an `.eh_frame` section.
 
-ghost use Rattle.std.specs.Prelude.{◌≡◌, ◌<◌, ◌^◌, IfErr, IfOk, length};
+ghost use Rattle.std.specs.Prelude.{◌≡◌, ◌<◌, ◌^◌, ◌&&◌, ℕ, IfErr, IfOk, length};
+ghost use Rattle.dw_bytes.specs.Answers.{memory};
+ghost use Rattle.dw_signed_rows.specs.SignedRanges.{has_signed};
+ghost use Rattle.dw_signed_rows.specs.SignedSections.{is_signed_of};
 ghost use Rattle.dw_process.specs.EhModules.{IsAddedLeavingOut, IsEhAdded, IsEhRefused, IsRefusedLeavingOut};
 
 use crate::address_range::AddressRange;
 use crate::process::Process;
 use crate::refusal::Refusal;
-use dw_bytes::OUT_OF_MEMORY;
+use crate::shared_marks::FrameMarks;
+use dw_bytes::{Fault, OUT_OF_MEMORY};
 use dw_eh_frame::Bases;
-use dw_eh_rows::{KeptRecords, check_eh_frame, check_eh_frame_leaving_out, signal_frames};
+use dw_eh_rows::{
+    KeptRecords, SignalRange, check_eh_frame, check_eh_frame_leaving_out, signal_frames,
+};
+use dw_rows::CheckedFrame;
+use dw_signed_rows::SignedRanges;
 use std::alloc::Global;
 
 /// An `.eh_frame` section (LSB Core, section 10.6).
@@ -20,6 +28,26 @@ pub struct EhSection<'a> {
     /// Whether the section is for aarch64, where the instructions 0x2d and 0x2c are
     /// DW_CFA_AARCH64_negate_ra_state and DW_CFA_AARCH64_negate_ra_state_with_pc.
     pub is_aarch64: bool,
+}
+
+/// The marks of a checked section with these signal frames. Only programs for aarch64 say where return
+/// addresses are signed.
+fn marks_with(
+    alloc: Global,
+    frame: &CheckedFrame<'_>,
+    signals: Vec<SignalRange>,
+    is_aarch64: bool,
+) -> Result<FrameMarks, Fault>
+    ensures signals { IfOk result (λ marks. marks.signals.items ≡ signals.items) }
+    ensures signed { IfOk result (λ marks. (a : ℕ) → has_signed marks.signed a ≡ (is_aarch64 && is_signed_of frame.now a)) }
+    ensures lack { IfErr result (λ fault. fault ≡ memory) }
+{
+    let signed = if is_aarch64 {
+        SignedRanges::of(alloc, frame)?
+    } else {
+        SignedRanges::none(alloc)
+    };
+    Ok(FrameMarks { signals, signed })
 }
 
 impl Process {
@@ -55,7 +83,8 @@ impl Process {
         let Ok(signals) = signal_frames(alloc, bytes, self.target(), bases, is_aarch64) else {
             return Err(Refusal::Section(OUT_OF_MEMORY));
         };
-        match self.add_checked(alloc, &frame, signals, load_address, range, cookie, room) {
+        let marks = marks_with(alloc, &frame, signals, is_aarch64)?;
+        match self.add_checked(alloc, &frame, marks, load_address, range, cookie, room) {
             Ok(id) => Ok(id),
             Err(why) => Err(why),
         }
@@ -90,7 +119,8 @@ impl Process {
         } = section;
         let kept = check_eh_frame_leaving_out(alloc, bytes, self.target(), bases, is_aarch64)?;
         let KeptRecords { frame, signals, .. } = kept;
-        match self.add_checked(alloc, &frame, signals, load_address, range, cookie, room) {
+        let marks = marks_with(alloc, &frame, signals, is_aarch64)?;
+        match self.add_checked(alloc, &frame, marks, load_address, range, cookie, room) {
             Ok(id) => Ok(id),
             Err(why) => Err(why),
         }

@@ -13,7 +13,7 @@ mod process;
 mod ranges;
 mod refusal;
 mod row_cache;
-mod shared_signals;
+mod shared_marks;
 mod shared_table;
 
 pub use address_range::AddressRange;
@@ -24,5 +24,5 @@ pub use module_rows::ModuleRows;
 pub use process::Process;
 pub use refusal::Refusal;
 pub use row_cache::{NoHints, ProcessSlot, RowCache, RowHint, RowHints};
-pub use shared_signals::SharedSignals;
+pub use shared_marks::{FrameMarks, SharedMarks};
 pub use shared_table::SharedTable;

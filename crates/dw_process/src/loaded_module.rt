@@ -1,7 +1,7 @@
 //! A module of a process, at its place in the process's memory.
 
 use crate::address_range::AddressRange;
-use crate::shared_signals::SharedSignals;
+use crate::shared_marks::SharedMarks;
 use crate::shared_table::SharedTable;
 
 /// A module of a process, which is the executable or a library: its compiled table, and where it is
@@ -19,6 +19,6 @@ pub struct LoadedModule {
     pub range: AddressRange,
     /// The module's rows.
     pub rows: SharedTable,
-    /// The addresses, as linked, of the module's signal frames.
-    pub signals: SharedSignals,
+    /// Which addresses, as linked, are those of signal frames, and at which return addresses are signed.
+    pub marks: SharedMarks,
 }

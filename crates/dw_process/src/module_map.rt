@@ -222,14 +222,14 @@ impl ModuleMap {
         let mut modules = Vec::with_capacity(alloc, self.modules.len()).ok()?;
         for module in &self.modules {
             let rows = module.rows.share()?;
-            let signals = module.signals.share()?;
+            let marks = module.marks.share()?;
             let shared = LoadedModule {
                 id: module.id,
                 cookie: module.cookie,
                 load_address: module.load_address,
                 range: module.range,
                 rows,
-                signals,
+                marks,
             };
             modules.push(shared).ok()?;
         }

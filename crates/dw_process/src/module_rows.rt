@@ -2,7 +2,7 @@
 
 ghost use Rattle.std.specs.Prelude.{◌≡◌, IfSome, Some};
 ghost use Rattle.dw_rows.specs.RowLookups.{IsRowUnder};
-ghost use Rattle.dw_process.specs.Processes.{is_signal_in_module, row_of_module};
+ghost use Rattle.dw_process.specs.Processes.{is_signal_in_module, is_signed_in_module, row_of_module};
 
 use crate::loaded_module::LoadedModule;
 use crate::row_cache::ProcessSlot;
@@ -12,8 +12,8 @@ use dw_unwind::{UnwindRows, as_linked};
 use std::marker::Model;
 
 /// The module of a process whose range contains an address. A step of a walk asks for the row of
-/// its address, and whether the address is one of a signal frame. With this it looks the module up
-/// only once (`Process::module_near`).
+/// its address, whether the address is one of a signal frame, and whether the return address is
+/// signed there. With this it looks the module up only once (`Process::module_near`).
 #[derive(Drop)]
 pub struct ModuleRows<'p> {
     /// The target of the module's table, and of its process.
@@ -60,7 +60,16 @@ impl<'p> ModuleRows<'p> {
         ensures { result ≡ is_signal_in_module (Some self.now) address }
     {
         let linked = as_linked(self.target, self.module.load_address, address);
-        self.module.signals.has(linked)
+        self.module.marks.is_signal_frame(linked)
+    }
+
+    /// Whether the return address is signed at an address as loaded (`Process::is_signed`).
+    #[inline(always)]
+    pub fn is_signed(&self, address: u64) -> bool
+        ensures { result ≡ is_signed_in_module (Some self.now) address }
+    {
+        let linked = as_linked(self.target, self.module.load_address, address);
+        self.module.marks.is_signed(linked)
     }
 }
 

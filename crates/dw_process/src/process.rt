@@ -4,7 +4,8 @@ ghost use Rattle.std.specs.List.{list_any, position};
 ghost use Rattle.std.specs.Option.{option_map};
 ghost use Rattle.std.specs.Prelude.{◌==◌, ◌≡◌, ◌<◌, ◌^◌, All, IfErr, IfOk, IfSome, Some, length};
 ghost use Rattle.dw_process.specs.ModuleMaps.{AreInOrder, module_at};
-ghost use Rattle.dw_process.specs.Processes.{AreDistinct, IsAdded, IsAddedWith, IsFoundIn, IsReady, found_at, is_signal_in, no_modules, removed};
+ghost use Rattle.dw_process.specs.Processes.{AreDistinct, IsAdded, IsAddedWith, IsFoundIn, IsReady, found_at, is_signal_in, is_signed_in, no_modules, removed};
+ghost use Rattle.dw_process.specs.Marks.{marks_of};
 ghost use Rattle.dw_process.specs.Refusals.{IsRefused, IsRefusedWith};
 
 use crate::address_range::AddressRange;
@@ -15,12 +16,12 @@ use crate::module_rows::ModuleRows;
 use crate::ranges::range_for;
 use crate::refusal::Refusal;
 use crate::row_cache::ProcessSlot;
-use crate::shared_signals::SharedSignals;
+use crate::shared_marks::{FrameMarks, SharedMarks};
 use crate::shared_table::SharedTable;
 use dw_bytes::{OUT_OF_MEMORY, Target};
-use dw_eh_rows::SignalRange;
 use dw_rows::{CheckedFrame, check_frame};
 use dw_rules::UnwindRow;
+use dw_signed_rows::SignedRanges;
 use dw_tables::UnwindTable;
 use dw_unwind::{UnwindRows, as_linked};
 use std::alloc::Global;
@@ -180,20 +181,23 @@ impl Process {
         ensures same { IfErr result (λ _. self.new ≡ self.old) }
     {
         let frame = check_frame(alloc, section, self.target)?;
-        let signals = Vec::new(alloc);
-        match self.add_checked(alloc, &frame, signals, load_address, range, cookie, room) {
+        let marks = FrameMarks {
+            signals: Vec::new(alloc),
+            signed: SignedRanges::none(alloc),
+        };
+        match self.add_checked(alloc, &frame, marks, load_address, range, cookie, room) {
             Ok(id) => Ok(id),
             Err(why) => Err(why),
         }
     }
 
-    /// Adds a module with the rows of a checked section, and with these signal frames. The other
-    /// arguments are those of `add`.
+    /// Adds a module with the rows of a checked section, and with these marks. The other arguments
+    /// are those of `add`.
     pub(crate) fn add_checked(
         &mut self,
         alloc: Global,
         frame: &CheckedFrame<'_>,
-        signals: Vec<SignalRange>,
+        marks: FrameMarks,
         load_address: u64,
         range: Option<AddressRange>,
         cookie: u64,
@@ -201,14 +205,14 @@ impl Process {
     ) -> Result<u64, Refusal>
         requires { frame.now.target ≡ self.old.target }
         ensures added { IfOk result
-            (λ id. IsAddedWith frame.now signals.items load_address range cookie room self.old id
+            (λ id. IsAddedWith frame.now (marks_of marks) load_address range cookie room self.old id
             self.new) }
         ensures refused { IfErr result
             (IsRefusedWith frame.now load_address range room self.old.modules) }
         ensures same { IfErr result (λ _. self.new ≡ self.old) }
     {
         let ready = prepare(alloc, &self.modules, frame, load_address, range, room)?;
-        let Some(signals) = SharedSignals::new(alloc, signals) else {
+        let Some(marks) = SharedMarks::new(alloc, marks) else {
             return Err(Refusal::Section(OUT_OF_MEMORY));
         };
         let id = self.next_id;
@@ -221,7 +225,7 @@ impl Process {
             load_address,
             range: ready.range,
             rows: ready.rows,
-            signals,
+            marks,
         };
         match self.modules.insert(ready.place, added) {
             Ok(()) => {
@@ -309,6 +313,18 @@ impl Process {
     {
         match self.module_near(address, &mut ProcessSlot::new()) {
             Some(module) => module.is_signal_frame(address),
+            None => false,
+        }
+    }
+
+    /// Whether the return address of a frame is signed at an address as loaded (aarch64's pointer
+    /// authentication). Only `.eh_frame` for aarch64 says so. O(log n) among n modules, and among n
+    /// functions of the module that sign theirs.
+    pub fn is_signed(&self, address: u64) -> bool
+        ensures { result ≡ is_signed_in self.now address }
+    {
+        match self.module_near(address, &mut ProcessSlot::new()) {
+            Some(module) => module.is_signed(address),
             None => false,
         }
     }
