@@ -2,3 +2,4 @@ mod SignatureSteps
 mod Programs
 mod Ranges
 mod Sections
+mod ExactSections

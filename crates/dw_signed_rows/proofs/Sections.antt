@@ -118,12 +118,13 @@ signed-on s index k c f old new checked is lt at cie so_far pushed order end = r
       ∙ sym (list_any_more (is_signed_here s a) index k f lt)));
 }
 
-decide : (b c : Bool) → (b ≡ true → c ≡ true) → (c ≡ true → b ≡ true) → b ≡ c
+pub decide : (b c : Bool) → (b ≡ true → c ≡ true) → (c ≡ true → b ≡ true) → b ≡ c
 decide true c onward back = sym (onward refl)
 decide false true onward back = back refl
 decide false false onward back = refl
 
-signed-by-some : (s : FrameSection) → IsChecked s → (f : Fde) → Contains s.fdes f → (a : ℕ) → is_signed_here s a f ≡ true → Covers f a
+-- if the return address is signed at an address by an FDE, the FDE covers the address
+pub signed-by-some : (s : FrameSection) → IsChecked s → (f : Fde) → Contains s.fdes f → (a : ℕ) → is_signed_here s a f ≡ true → Covers f a
 signed-by-some s checked f among a is =
     let pointed = fde-good s checked f among in
     signed-covered pointed.0 f pointed.3 a (sym (ap (λ o. is_signed_by o f a) pointed.1) ∙ is)

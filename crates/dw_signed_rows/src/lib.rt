@@ -1,6 +1,7 @@
 //! Where return addresses are signed, by the programs of an `.eh_frame` section for aarch64.
 #![tactic(auto)]
 
+pub mod laws;
 mod signature;
 mod signed_program;
 mod signed_range;
