@@ -1,6 +1,5 @@
 -- In an accepted section the FDE that covers an address says whether the return address is signed there.
-use Rattle.std.proofs.Common.{◌≡◌, ℕ, Bool, true, false, sym, ap, ◌∙◌, Option, Some, Contains}
-use Rattle.std.specs.List.{list_any}
+use Rattle.std.proofs.Common.{◌≡◌, ℕ, true, false, sym, ap, ◌∙◌, Some, Contains}
 use Rattle.std.proofs.lemmas.List.Folds.{Any-from_list_any, list_any_at}
 use Rattle.dw_frame.specs.Records.{Cie, Fde}
 use Rattle.dw_rows.specs.Section.{Covers, FrameSection, IsChecked, cie_in}
@@ -21,8 +20,8 @@ by-some s checked a some =
     let (i, f, few, at, here) = Any-from_list_any (is_signed_here s a) s.fdes some in
     record { fde = f; among = (i, few, at); covers = signed-by-some s checked f (i, few, at) a here; here = here }
 
-pub signed-where-covered : (s : FrameSection) (a : ℕ) → IsChecked s → (f : Fde) → Contains s.fdes f → Covers f a → (c : Cie)
-    → cie_in s f ≡ Some c → is_signed_of s a ≡ is_signed_in c f a
+pub signed-where-covered : (s : FrameSection) (a : ℕ) → IsChecked s → (f : Fde) → Contains s.fdes f → Covers f a
+    → (c : Cie) → cie_in s f ≡ Some c → is_signed_of s a ≡ is_signed_in c f a
 signed-where-covered s a checked f among covers c cie =
     let by_cie : is_signed_here s a f ≡ is_signed_in c f a = ap (λ o. is_signed_by o f a) cie in
     decide (is_signed_of s a) (is_signed_in c f a)

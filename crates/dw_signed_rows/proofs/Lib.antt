@@ -3,3 +3,5 @@ mod Programs
 mod Ranges
 mod Sections
 mod ExactSections
+mod GoodInstructions
+mod SignedAddresses

@@ -57,7 +57,8 @@ signed-within c f first before (Ok (at, i) ∷ items) none from a is =
     (low, below-end _ _ a high within))
     (λ later. signed-within c f first (i ∷ before) items known.1 (omega (arith, from, on)) a later)
 
-signed-covered : (c : Cie) (f : Fde) → fde_fault c f ≡ None → (a : ℕ) → is_signed_in c f a ≡ true → Covers f a
+-- at an address that the FDE doesn't cover the return address isn't signed
+pub signed-covered : (c : Cie) (f : Fde) → fde_fault c f ≡ None → (a : ℕ) → is_signed_in c f a ≡ true → Covers f a
 unfolding is_signed_in fde_fault
 signed-covered c f none a is = signed-within c f (signed_by_cie c) [] (instructions_of f.program) none (omega arith) a is
 

@@ -2,6 +2,8 @@
 pub mod SignedRows
 -- where they are signed in an accepted section
 pub mod SignedSections
+-- where they are signed in good programs, by the number of instructions
+pub mod SignedPrograms
 -- ranges of addresses, and the addresses that they have
 pub mod SignedRanges
 -- ---- Internal.

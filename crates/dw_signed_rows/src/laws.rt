@@ -1,9 +1,12 @@
-//! Laws: what the definitions in `specs/` imply about where return addresses are signed. Each law is
-//! the contract of a function that does nothing.
+//! Laws: what the definitions in `specs/` imply about where return addresses are signed. Each law
+//! is the contract of a function that does nothing.
 
 ghost use Rattle.std.specs.Prelude.{◌≡◌, ℕ, Bool, false, Some, Contains};
 ghost use Rattle.dw_frame.specs.Records.{Cie, Fde};
+ghost use Rattle.dw_rows.specs.Clauses.{program_in, start_in};
+ghost use Rattle.dw_rows.specs.GoodPrograms.{IsGoodFdeProgram, IsLast};
 ghost use Rattle.dw_rows.specs.Section.{Covers, FrameSection, IsChecked, cie_in};
+ghost use Rattle.dw_signed_rows.specs.SignedPrograms.{signed_after};
 ghost use Rattle.dw_signed_rows.specs.SignedRows.{is_signed_in};
 ghost use Rattle.dw_signed_rows.specs.SignedSections.{is_signed_of};
 
@@ -14,4 +17,16 @@ pub fn signed_sections_are_exact()
         → Covers f a → (c : Cie) → cie_in s f ≡ Some c → is_signed_of s a ≡ is_signed_in c f a }
     ensures others { (s : FrameSection) (a : ℕ) → IsChecked s
         → ((f : Fde) → Contains s.fdes f → ¬ Covers f a) → is_signed_of s a ≡ false }
+{}
+
+/// Let an FDE's program be good. For an address that the FDE covers, take the longest prefix of the
+/// program after which the location is at most the address: the prefix whose rules the row of the
+/// address has (`rows_are_those_of_addresses` of `dw_rows`). The return address is signed at the
+/// address if and only if it is signed after that prefix. At other addresses it isn't signed.
+pub fn signed_rows_are_those_of_addresses()
+    ensures covered { (cie : Cie) (fde : Fde) → (good : IsGoodFdeProgram cie fde) → (a k : ℕ)
+        → Covers fde a → IsLast (start_in cie fde good) (program_in cie fde good) a k
+        → is_signed_in cie fde a ≡ signed_after cie fde good k }
+    ensures others { (cie : Cie) (fde : Fde) → IsGoodFdeProgram cie fde → (a : ℕ)
+        → ¬ Covers fde a → is_signed_in cie fde a ≡ false }
 {}
