@@ -14,7 +14,8 @@ use Rattle.dw_signed_rows.specs.SignedRows.{instructions_in}
 abbrev pub effects_in : Cie → List Instruction → List Effect
 effects_in c xs = map (effect_of c) xs
 
-pub same-effects : (c : Cie) (items : List (ℕ × Instruction)) → effects_in c (instructions_by items) ≡ effects_by c items
+pub same-effects : (c : Cie) (items : List (ℕ × Instruction))
+    → effects_in c (instructions_by items) ≡ effects_by c items
 same-effects c [] = refl
 same-effects c (item ∷ items) = ap (λ l. effect_of c item.1 ∷ l) (same-effects c items)
 

@@ -5,3 +5,5 @@ mod Sections
 mod ExactSections
 mod GoodInstructions
 mod SignedAddresses
+mod MatchedInstructions
+mod SignaturesByInstruction

@@ -1,12 +1,12 @@
 //! Laws: what the definitions in `specs/` imply about where return addresses are signed. Each law
 //! is the contract of a function that does nothing.
 
-ghost use Rattle.std.specs.Prelude.{◌≡◌, ℕ, Bool, false, Some, Contains};
+ghost use Rattle.std.specs.Prelude.{◌≡◌, ℕ, ◌+◌, ◌≤◌, Bool, false, Some, Contains, length};
 ghost use Rattle.dw_frame.specs.Records.{Cie, Fde};
 ghost use Rattle.dw_rows.specs.Clauses.{program_in, start_in};
 ghost use Rattle.dw_rows.specs.GoodPrograms.{IsGoodFdeProgram, IsLast};
 ghost use Rattle.dw_rows.specs.Section.{Covers, FrameSection, IsChecked, cie_in};
-ghost use Rattle.dw_signed_rows.specs.SignedPrograms.{signed_after};
+ghost use Rattle.dw_signed_rows.specs.SignedPrograms.{AreSignatures, signed_after};
 ghost use Rattle.dw_signed_rows.specs.SignedRows.{is_signed_in};
 ghost use Rattle.dw_signed_rows.specs.SignedSections.{is_signed_of};
 
@@ -29,4 +29,17 @@ pub fn signed_rows_are_those_of_addresses()
         → is_signed_in cie fde a ≡ signed_after cie fde good k }
     ensures others { (cie : Cie) (fde : Fde) → IsGoodFdeProgram cie fde → (a : ℕ)
         → ¬ Covers fde a → is_signed_in cie fde a ≡ false }
+{}
+
+/// Whether the return address is signed after the first k + 1 instructions of a good program
+/// (`signed_after`, SignedPrograms.antt) follows from whether it is after fewer instructions
+/// (`AreSignatures`). A negate_ra_state turns it around, a restore_state makes it what it was before
+/// the matching remember_state, and any other instruction keeps it. Nothing else meets these
+/// conditions.
+pub fn signatures_by_instruction()
+    ensures meet { (cie : Cie) (fde : Fde) → (good : IsGoodFdeProgram cie fde)
+        → AreSignatures cie fde good (signed_after cie fde good) }
+    ensures only { (cie : Cie) (fde : Fde) → (good : IsGoodFdeProgram cie fde)
+        → (signed : ℕ → Bool) → AreSignatures cie fde good signed
+        → (k : ℕ) → k ≤ length good.items → signed k ≡ signed_after cie fde good k }
 {}
