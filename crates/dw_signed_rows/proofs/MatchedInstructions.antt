@@ -69,7 +69,8 @@ pub record IsMatch (c : Cie) (xs : List Instruction) (i j : ℕ) : Type 0 where
 
 -- the parts of the instructions, joined again
 joined : (xs front late tail between last back : List Instruction) (x y : Instruction)
-    → xs ≡ front ++ late → late ≡ x ∷ tail → x ≡ remember_state → tail ≡ between ++ last → last ≡ y ∷ back → y ≡ restore_state
+    → xs ≡ front ++ late → late ≡ x ∷ tail → x ≡ remember_state
+    → tail ≡ between ++ last → last ≡ y ∷ back → y ≡ restore_state
     → xs ≡ front ++ (remember_state ∷ (between ++ (restore_state ∷ back)))
 joined xs front late tail between last back x y whole opened opens inside closed closes = cc
 

@@ -1,7 +1,7 @@
 //! Laws: what the definitions in `specs/` imply about where return addresses are signed. Each law
 //! is the contract of a function that does nothing.
 
-ghost use Rattle.std.specs.Prelude.{◌≡◌, ℕ, ◌+◌, ◌≤◌, Bool, false, Some, Contains, length};
+ghost use Rattle.std.specs.Prelude.{◌≡◌, ℕ, ◌≤◌, Bool, false, Some, Contains, length};
 ghost use Rattle.dw_frame.specs.Records.{Cie, Fde};
 ghost use Rattle.dw_rows.specs.Clauses.{program_in, start_in};
 ghost use Rattle.dw_rows.specs.GoodPrograms.{IsGoodFdeProgram, IsLast};
@@ -33,8 +33,8 @@ pub fn signed_rows_are_those_of_addresses()
 
 /// Whether the return address is signed after the first k + 1 instructions of a good program
 /// (`signed_after`, SignedPrograms.antt) follows from whether it is after fewer instructions
-/// (`AreSignatures`). A negate_ra_state turns it around, a restore_state makes it what it was before
-/// the matching remember_state, and any other instruction keeps it. Nothing else meets these
+/// (`AreSignatures`). A negate_ra_state turns it around, a restore_state makes it what it was
+/// before the matching remember_state, and any other instruction keeps it. Nothing else meets these
 /// conditions.
 pub fn signatures_by_instruction()
     ensures meet { (cie : Cie) (fde : Fde) → (good : IsGoodFdeProgram cie fde)
