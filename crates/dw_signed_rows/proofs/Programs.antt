@@ -1,6 +1,6 @@
 -- Programs without a fault, run one instruction at a time.
-use Rattle.std.proofs.Common.{◌≡◌, ℕ, zero, suc, ◌+◌, ◌≤◌, ◌<◌, Bool, true, false, not, cond, List, [], ◌∷◌, ◌++◌, length, map, reverse, refl, sym, ap, ◌∙◌, arith, append_assoc, subst}
-use Rattle.std.proofs.Common.{Option, Some, None, Result, Ok, Err}
+use Rattle.std.proofs.Common.{◌≡◌, ℕ, ◌+◌, ◌≤◌, ◌<◌, Bool, true, false, cond, List, [], ◌∷◌, ◌++◌, length, map, reverse, refl, sym, ap, ◌∙◌, arith, append_assoc, subst}
+use Rattle.std.proofs.Common.{Option, Some, None, Result, Ok}
 use Rattle.std.proofs.lemmas.List.{append-nil, reverse-append}
 use Rattle.std.specs.Prelude.{◌||◌, ◌&&◌, ◌==◌, nat_lt, nat_le}
 use Rattle.std.specs.Option.{option_or}
@@ -12,7 +12,7 @@ use Rattle.dw_frame.specs.Codes.{instructions_of}
 use Rattle.dw_frame.specs.Instructions.{Instruction, remember_state, restore_state, negate_ra_state}
 use Rattle.dw_frame.specs.Records.{Cie, Fde}
 use Rattle.dw_rules.specs.declared.remember_stack.TheConstants.{MAX_REMEMBERED}
-use Rattle.dw_rules.specs.Effects.{Effect, advances_loc, sets_loc, remembers_state, effect_of, is_barred}
+use Rattle.dw_rules.specs.Effects.{Effect, advances_loc, sets_loc, effect_of, is_barred}
 use Rattle.dw_rules.specs.InForce.{Start, cfa_at, location_of, open_count, cie_start, fde_start}
 use Rattle.dw_rules.specs.ProgramFault.{cie_fault, cie_refusal_at, fault_from, fault_of_kind, fde_fault, fde_fault_from, goes_back, is_remember_state, is_restore_state, lacks_cfa, refusal_at}
 use Rattle.dw_signed_rows.specs.SignedRows.{is_signed_after, is_signed_in, signed_at, is_signed_up_to, instructions_in, location_by, signed_by_cie}

@@ -1,6 +1,6 @@
 -- The ranges of a section's FDEs, in order of address.
-use Rattle.std.proofs.Common.{◌≡◌, ℕ, zero, suc, ◌+◌, ◌<◌, ◌≤◌, ◌⊎◌, Bool, true, false, List, [], ◌∷◌, length, map, take, get_or, refl, sym, ap, ◌∙◌, subst, arith, inl, inr}
-use Rattle.std.proofs.Common.{Option, Some, None, Result, Ok, Err, Contains}
+use Rattle.std.proofs.Common.{◌≡◌, ℕ, ◌+◌, ◌<◌, ◌≤◌, Bool, true, false, List, [], ◌∷◌, length, map, take, get_or, refl, sym, ap, ◌∙◌, subst, arith, inl, inr}
+use Rattle.std.proofs.Common.{Some, None, Result, Ok, Err, Contains}
 use Rattle.std.specs.Prelude.{◌||◌, ◌&&◌, nat_lt, nat_le}
 use Rattle.std.specs.List.{list_any}
 use Rattle.std.proofs.lemmas.Bool.{cases_lt}
@@ -22,7 +22,7 @@ use Rattle.dw_signed_rows.specs.SignedRanges.{AreInOrder, ends_at, has_signed}
 use Rattle.dw_signed_rows.specs.SignedRows.{instructions_in, is_signed_after, is_signed_in, is_signed_up_to, location_by, signed_by_cie}
 use Rattle.dw_signed_rows.specs.SignedSections.{is_signed_by, is_signed_of}
 use Rattle.dw_signed_rows.specs.declared.signed_range.SignedRange.{SignedRange}
-use Rattle.dw_signed_rows.proofs.Programs.{fine, forward, refused-not}
+use Rattle.dw_signed_rows.proofs.Programs.{forward, refused-not}
 
 -- ---- what is signed is covered
 

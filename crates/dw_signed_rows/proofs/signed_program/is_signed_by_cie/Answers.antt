@@ -2,7 +2,6 @@ use Rattle.std.proofs.Common.{◌≡◌, ◌∙◌, ◌∷◌, Bool, List, ℕ, 
 use Rattle.dw_bytes.specs.declared.fault.Fault.{Fault}
 use Rattle.dw_frame.specs.Instructions.{Instruction}
 use Rattle.dw_frame.specs.Views.{cie_of, instruction_of, item_of}
-use Rattle.dw_signed_rows.specs.Signatures.{turned_by}
 use Rattle.dw_signed_rows.proofs.Programs.{IsLeaving, leaving-begins, leaving-on}
 use Rattle.dw_signed_rows.proofs.signed_program.is_signed_by_cie.Goals as goal
 

@@ -1,6 +1,5 @@
-use Rattle.std.proofs.Common.{◌≡◌, ◌∙◌, ◌∷◌, [], ◌++◌, List, ap, sym, subst, arith, refl}
-use Rattle.std.specs.Prelude.{◌||◌}
-use Rattle.dw_signed_rows.specs.SignedRanges.{AreInOrder, ends_at, has_address, has_signed}
+use Rattle.std.proofs.Common.{◌≡◌, ◌∙◌, ◌∷◌, [], ◌++◌, List, ap, sym, arith}
+use Rattle.dw_signed_rows.specs.SignedRanges.{ends_at}
 use Rattle.dw_signed_rows.specs.declared.signed_range.SignedRange.{SignedRange}
 use Rattle.dw_signed_rows.proofs.Ranges.{end-appended, joined-to, order-appended, order-joined}
 use Rattle.dw_signed_rows.proofs.signed_range.push_range.Goals as goal

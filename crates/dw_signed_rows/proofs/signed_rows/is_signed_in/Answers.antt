@@ -1,4 +1,4 @@
-use Rattle.std.proofs.Common.{◌≡◌, ◌∙◌, ap, sym}
+use Rattle.std.proofs.Common.{◌∙◌, ap, sym}
 use Rattle.std.specs.Prelude.{◌||◌}
 use Rattle.dw_frame.specs.Views.{cie_of, fde_of}
 use Rattle.dw_signed_rows.specs.SignedRuns.{is_left_signed}

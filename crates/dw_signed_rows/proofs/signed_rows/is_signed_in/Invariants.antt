@@ -1,4 +1,4 @@
-use Rattle.std.proofs.Common.{◌≡◌, ℕ, length}
+use Rattle.std.proofs.Common.{◌≡◌, length}
 use Rattle.dw_frame.specs.Views.{cie_of, fde_of}
 use Rattle.dw_signed_rows.specs.SignedRows.{is_signed_in}
 use Rattle.dw_signed_rows.specs.SignedRuns.{IsRunning, is_left_signed}

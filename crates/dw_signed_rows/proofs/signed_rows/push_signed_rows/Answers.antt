@@ -1,8 +1,7 @@
-use Rattle.std.proofs.Common.{◌≡◌, ◌∙◌, ap, sym, arith}
+use Rattle.std.proofs.Common.{◌∙◌, ap, sym, arith}
 use Rattle.std.specs.Prelude.{◌||◌}
 use Rattle.dw_frame.specs.Views.{cie_of, fde_of}
 use Rattle.dw_signed_rows.specs.SignedRanges.{has_signed}
-use Rattle.dw_signed_rows.specs.SignedRows.{is_signed_in}
 use Rattle.dw_signed_rows.specs.SignedRuns.{is_left_signed, is_signed_row}
 use Rattle.dw_signed_rows.proofs.Programs.{begun-at, passed-forward, passed-last, passed-on}
 use Rattle.dw_signed_rows.proofs.Ranges.{or-assoc}

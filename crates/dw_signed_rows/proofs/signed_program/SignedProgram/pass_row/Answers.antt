@@ -1,9 +1,7 @@
-use Rattle.std.proofs.Common.{◌≡◌, ◌∙◌, ◌∷◌, ap, sym, subst, arith, refl, length, List, ℕ, Result, Ok}
-use Rattle.dw_bytes.specs.declared.fault.Fault.{Fault}
-use Rattle.dw_frame.specs.Instructions.{Instruction}
+use Rattle.std.proofs.Common.{◌≡◌, ◌∙◌, ◌∷◌, ap, sym, subst, arith, refl, length, Ok}
 use Rattle.dw_frame.specs.Views.{cie_of, fde_of, instruction_of, item_of}
 use Rattle.dw_rules.specs.Effects.{effect_of}
-use Rattle.dw_signed_rows.specs.Signatures.{IsAfter, SignatureState}
+use Rattle.dw_signed_rows.specs.Signatures.{IsAfter}
 use Rattle.dw_signed_rows.specs.SignedRuns.{SignedState, moved_by}
 use Rattle.dw_signed_rows.proofs.Programs.{run-on}
 use Rattle.dw_signed_rows.proofs.signed_program.SignedProgram.pass_row.Goals as goal
