@@ -2,15 +2,15 @@
 -- with two differences. The first is about signal frames, to which signal handlers return; an
 -- `.eh_frame` section says which frames these are. The caller of a signal frame was interrupted and
 -- made no call, so it is looked up at its own address, and not at the address before. The second is
--- about processors that sign return addresses: the bits of a return address that have the signature
--- are no part of the caller's address.
+-- about processors that sign return addresses: where a row says that the return address is signed, the
+-- bits that have the signature are no part of the caller's address.
 use Rattle.std.specs.Prelude.{◌≡◌, ℕ, ◌≤◌, ◌-◌, ◌==◌, bit_and, if◌then◌else◌, Bool, false, List, [], ◌∷◌, length, Option, Some, None, option_map}
 use Rattle.dw_rules.specs.Abi.{Abi}
 use Rattle.dw_unwind.specs.Caller.{Caller}
 use Rattle.dw_unwind.specs.Walks.{CallerRelation, IsFrameAt, Place, WalkedFrame, address_before, content_of, contents_of, over_rows, stop_after}
 use Rattle.dw_unwind.specs.declared.frames.Stop.{Stop}
 use Rattle.dw_unwind.specs.declared.frames.Stop.TheVariants.{Limit}
-use Rattle.dw_process.specs.Processes.{ProcessState, is_signal_in, row_in}
+use Rattle.dw_process.specs.Processes.{ProcessState, is_signal_in, is_signed_in, row_in}
 
 -- ---- what a walk unwinds with
 
@@ -24,18 +24,29 @@ abbrev pub over_held : Abi → (ℕ → Option ℕ) → Option ProcessState → 
 over_held abi memory None = λ registers address caller. caller ≡ None
 over_held abi memory (Some p) = over_process abi memory p
 
--- Which caller a frame has, whether a frame that is looked up at an address is a signal frame, and
--- which bits of a return address have its signature.
+-- Which caller a frame has, whether a frame that is looked up at an address is a signal frame, whether
+-- its return address is signed, and which bits of a signed return address have the signature.
 pub record Unwinding : Type 1 where
   pub callers : CallerRelation
   pub is_signal : ℕ → Bool
+  pub is_signed : ℕ → Bool
   pub signed_bits : ℕ
 
 abbrev pub through_process : Abi → (ℕ → Option ℕ) → ℕ → ProcessState → Unwinding
-through_process abi memory bits p = record { callers = over_process abi memory p; is_signal = is_signal_in p; signed_bits = bits }
+through_process abi memory bits p = record {
+  callers = over_process abi memory p;
+  is_signal = is_signal_in p;
+  is_signed = is_signed_in p;
+  signed_bits = bits;
+}
 
 abbrev pub through_held : Abi → (ℕ → Option ℕ) → ℕ → Option ProcessState → Unwinding
-through_held abi memory bits None = record { callers = over_held abi memory None; is_signal = λ _. false; signed_bits = bits }
+through_held abi memory bits None = record {
+  callers = over_held abi memory None;
+  is_signal = λ _. false;
+  is_signed = λ _. false;
+  signed_bits = bits;
+}
 through_held abi memory bits (Some p) = through_process abi memory bits p
 
 -- ---- from a frame to the next
@@ -54,6 +65,12 @@ signal_at is_signal (Some a) = is_signal a
 abbrev pub without_bits : ℕ → ℕ → ℕ
 without_bits bits n = n - bit_and n bits
 
+-- which bits of a frame's return address have its signature, given the address that is looked up for the
+-- frame; none if the return address isn't signed
+abbrev pub bits_at : (ℕ → Bool) → ℕ → Option ℕ → ℕ
+bits_at is_signed bits None = 0
+bits_at is_signed bits (Some a) = if is_signed a then bits else 0
+
 -- where a walk is at `caller`, whose frame is at `address`
 abbrev pub place_at : Bool → Caller → ℕ → Place
 place_at is_signal caller address =
@@ -64,7 +81,8 @@ place_at is_signal caller address =
 abbrev pub place_after : Unwinding → Option ℕ → Option Caller → Option Place
 place_after u looked_up None = None
 place_after u looked_up (Some caller) =
-    option_map (λ n. place_at (signal_at u.is_signal looked_up) caller (without_bits u.signed_bits n)) (content_of caller.return_address)
+    option_map (λ n. place_at (signal_at u.is_signal looked_up) caller (without_bits (bits_at u.is_signed u.signed_bits looked_up) n))
+    (content_of caller.return_address)
 
 -- ---- the frames of a walk
 

@@ -12,7 +12,7 @@ use Rattle.dw_unwind.specs.declared.frames.Stop.TheVariants.{NotCovered}
 use Rattle.dw_unwind.specs.declared.unwinding.Unwound.{Unwound}
 use Rattle.dw_c_types.specs.declared.answer.CFrame.{CFrame}
 use Rattle.dw_c_types.specs.Frames.{cframe_of, stop_number}
-use Rattle.dw_c_types.specs.ProcessWalks.{Unwinding, looked_up_after, place_after, place_at, signal_at, without_bits}
+use Rattle.dw_c_types.specs.ProcessWalks.{Unwinding, bits_at, looked_up_after, place_after, place_at, signal_at, without_bits}
 use Rattle.dwcheck_c.specs.declared.cursor.CCursor.{CCursor}
 use Rattle.dwcheck_c.specs.WalkCursors.{IsStepBy, looked_up_by, place_of, registers_in}
 
@@ -43,17 +43,18 @@ at-caller is_signal c next contents stage address registers =
 
 -- the place of a caller with this return address
 abbrev pub next-place : Unwinding → Option ℕ → Caller → ℕ → Place
-next-place u looked_up caller n = place_at (signal_at u.is_signal looked_up) caller (without_bits u.signed_bits n)
+next-place u looked_up caller n = place_at (signal_at u.is_signal looked_up) caller (without_bits (bits_at u.is_signed u.signed_bits looked_up) n)
 
 -- the place of the next frame, if unwinding gave a return address
 pub next-is : (u : Unwinding) (looked_up : Option ℕ) (unwound : Option Unwound) (found : List (ℕ × Answer)) (contents : ℕ → Option ℕ) (next : ℕ)
     → IsSomeAnd unwound (λ w. answer_in w.return_address ≡ value next) → IfSome unwound (λ _. contents_of found ≡ contents)
     → place_after u looked_up (option_map (caller_with found) unwound)
-    ≡ Some (caller-place (signal_at u.is_signal looked_up) (without_bits u.signed_bits next) contents)
+    ≡ Some (caller-place (signal_at u.is_signal looked_up) (without_bits (bits_at u.is_signed u.signed_bits looked_up) next) contents)
 next-is u looked_up None found contents next is are = absurd is
 next-is u looked_up (Some w) found contents next is are =
     ap (λ (a : Answer). option_map (next-place u looked_up (caller_with found w)) (content_of a)) is
-    ∙ ap (λ (f : ℕ → Option ℕ). Some (caller-place (signal_at u.is_signal looked_up) (without_bits u.signed_bits next) f)) are
+    ∙ ap (λ (f : ℕ → Option ℕ). Some (caller-place (signal_at u.is_signal looked_up)
+    (without_bits (bits_at u.is_signed u.signed_bits looked_up) next) f)) are
 
 pub same-contents : (unwound : Option Unwound) (found : List (ℕ × Answer)) → IfSome unwound (λ _. contents_of found ≡ contents_of found)
 same-contents None found = tt
@@ -92,10 +93,13 @@ pub step-goes : (u : Unwinding) (old new : CCursor) (frame : CFrame) (unwound : 
     → looked_up_by old.stage old.address ≡ Some a
     → frame ≡ cframe_of (record { address = old.address; caller = option_map (caller_with h.found) unwound })
     → IsSomeAnd unwound (λ w. answer_in w.return_address ≡ value next) → new.stage ≡ (if u.is_signal a then 0 else 1)
-    → new.address ≡ without_bits u.signed_bits next → registers_in new ≡ contents → IsStepBy u old new frame
+    → new.address ≡ without_bits (bits_at u.is_signed u.signed_bits (Some a)) next → registers_in new ≡ contents → IsStepBy u old new frame
 step-goes u old new frame unwound contents a next h at shown back stage address registers =
     let looked_up : Option ℕ = looked_up_by old.stage old.address in
     let is_signal : Bool = signal_at u.is_signal looked_up in
+    let bits : ℕ = bits_at u.is_signed u.signed_bits looked_up in
+    let unsigned : new.address ≡ without_bits bits next =
+    address ∙ ap (λ (o : Option ℕ). without_bits (bits_at u.is_signed u.signed_bits o) next) (sym at) in
     let here : new.stage ≡ (if is_signal then 0 else 1) =
     stage ∙ ap (λ (o : Option ℕ). if signal_at u.is_signal o then 0 else 1) (sym at) in
     record {
@@ -104,7 +108,7 @@ step-goes u old new frame unwound contents a next h at shown back stage address 
       shown = shown;
       goes = subst (λ (o : Option Place). IfSome o (λ p. (new.stage ≤ 1) × (place_of new ≡ p)))
           (sym (next-is u looked_up unwound h.found contents next back h.contents_are))
-          (subst (λ (n : ℕ). n ≤ 1) (sym here) (stage-fits is_signal), at-caller is_signal new (without_bits u.signed_bits next) contents here address registers);
+          (subst (λ (n : ℕ). n ≤ 1) (sym here) (stage-fits is_signal), at-caller is_signal new (without_bits bits next) contents here unsigned registers);
       ends = subst (λ (o : Option Stop). IfSome o (λ why. (new.stage ≡ stop_number why + 1) × (new.address ≡ old.address)
           × (registers_in new ≡ registers_in old))) (sym (no-stop unwound h.found next back)) tt;
     }

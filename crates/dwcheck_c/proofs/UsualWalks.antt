@@ -1,5 +1,5 @@
 -- Walks without signal frames and signed bits are the walks of dw_unwind.
-use Rattle.std.proofs.Common.{◌≡◌, ◌↔◌, ℕ, ◌-◌, ◌∙◌, Bool, false, List, [], ◌∷◌, refl, sym, ap, subst}
+use Rattle.std.proofs.Common.{◌≡◌, ◌↔◌, ℕ, ◌-◌, ◌∙◌, Bool, true, false, cond, List, [], ◌∷◌, refl, sym, ap, subst}
 use Rattle.std.specs.Prelude.{None, Option, Some, option_map}
 use Rattle.std.specs.Int.Bits.{and_zero_r}
 use Rattle.std.proofs.Math.Nat.{sub-zero}
@@ -8,7 +8,7 @@ use Rattle.dw_unwind.specs.Caller.{Caller}
 use Rattle.dw_unwind.specs.Walks.{AreFrames, Place, WalkedFrame, Walks, content_of, next_place, place_of_caller}
 use Rattle.dw_unwind.specs.declared.frames.Stop.{Stop}
 use Rattle.dw_process.specs.Processes.{ProcessState, is_signal_in}
-use Rattle.dw_c_types.specs.ProcessWalks.{AreFramesBy, Unwinding, WalksBy, over_process, place_after, place_at, signal_at, through_process, without_bits}
+use Rattle.dw_c_types.specs.ProcessWalks.{AreFramesBy, Unwinding, bits_at, WalksBy, over_process, place_after, place_at, signal_at, through_process, without_bits}
 
 no-bits : (n : ℕ) → without_bits 0 n ≡ n
 no-bits n = ap (λ (m : ℕ). n - m) (and_zero_r n) ∙ sub-zero n
@@ -18,19 +18,28 @@ module _ (u : Unwinding) (no_signals : (a : ℕ) → u.is_signal a ≡ false) (u
   no-signal None = refl
   no-signal (Some a) = no_signals a
 
-  same-address : (n : ℕ) → without_bits u.signed_bits n ≡ n
-  same-address n = ap (λ (bits : ℕ). without_bits bits n) unsigned ∙ no-bits n
+  none-set : (o : Option ℕ) → bits_at u.is_signed u.signed_bits o ≡ 0
+  none-set None = refl
+  none-set (Some a) = go (u.is_signed a)
+    where
+      go : (b : Bool) → cond b u.signed_bits 0 ≡ 0
+      go true = unsigned
+      go false = refl
+
+  same-address : (o : Option ℕ) (n : ℕ) → without_bits (bits_at u.is_signed u.signed_bits o) n ≡ n
+  same-address o n = ap (λ (bits : ℕ). without_bits bits n) (none-set o) ∙ no-bits n
 
   same-place : (looked_up : Option ℕ) (caller : Option Caller) → place_after u looked_up caller ≡ next_place caller
   same-place looked_up None = refl
   same-place looked_up (Some c) = go (content_of c.return_address)
     where
       go : (o : Option ℕ)
-          → option_map (λ n. place_at (signal_at u.is_signal looked_up) c (without_bits u.signed_bits n)) o ≡ option_map (place_of_caller c) o
+          → option_map (λ n. place_at (signal_at u.is_signal looked_up) c (without_bits (bits_at u.is_signed u.signed_bits looked_up) n)) o
+          ≡ option_map (place_of_caller c) o
       go None = refl
       go (Some n) =
-          ap (λ (b : Bool). Some (place_at b c (without_bits u.signed_bits n))) (no-signal looked_up)
-          ∙ ap (λ (a : ℕ). Some (place_at false c a)) (same-address n)
+          ap (λ (b : Bool). Some (place_at b c (without_bits (bits_at u.is_signed u.signed_bits looked_up) n))) (no-signal looked_up)
+          ∙ ap (λ (a : ℕ). Some (place_at false c a)) (same-address looked_up n)
 
   to-frames : (o : Option Place) (frames : List WalkedFrame) → AreFramesBy u o frames → AreFrames u.callers o frames
   to-frames None [] h = tt

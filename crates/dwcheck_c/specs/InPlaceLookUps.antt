@@ -17,6 +17,7 @@ use Rattle.dw_in_place.specs.InPlace.{SectionInPlace, lying, row_of_fde}
 use Rattle.dw_in_place.specs.LookUps.{fde_by_entry}
 use Rattle.dw_in_place.specs.Scans.{Scans, fde_by_place}
 use Rattle.dw_in_place.specs.SearchTables.{Finds, Table, table_in}
+use Rattle.dw_signed_rows.specs.SignedRows.{is_signed_in}
 use Rattle.dw_c_types.specs.ProcessWalks.{Unwinding, through_held}
 use Rattle.dw_c_types.specs.Rows.{IsRowOf}
 use Rattle.dw_c_types.specs.Targets.{target_by}
@@ -149,10 +150,10 @@ pub record IsRowGiven (m : CModule) (h : CHeader) (address : ℕ) (row : CRow) (
 
 -- ---- steps
 
--- unwinding by a row of an FDE that was looked up
-abbrev pub through_fde : Target → EhFde → Row → Abi → (ℕ → Option ℕ) → ℕ → Unwinding
-through_fde target e row = through_rows target (λ _ found. found ≡ Some (row, e.cie.cie.return_address_register))
-    (λ _. e.cie.augmentation.is_signal)
+-- unwinding by a row of an FDE that was looked up for an address as linked
+abbrev pub through_fde : Target → EhFde → Row → ℕ → Abi → (ℕ → Option ℕ) → ℕ → Unwinding
+through_fde target e row linked = through_rows target (λ _ found. found ≡ Some (row, e.cie.cie.return_address_register))
+    (λ _. e.cie.augmentation.is_signal) (λ _. is_signed_in e.cie.cie e.fde linked)
 
 -- A step by the FDE that covers the address.
 pub record IsStepByFde (m : CModule) (h : CHeader) (address : ℕ) (abi : Abi) (memory : ℕ → Option ℕ) (bits : ℕ) (old new : CCursor)
@@ -161,7 +162,7 @@ pub record IsStepByFde (m : CModule) (h : CHeader) (address : ℕ) (abi : Abi) (
   pub fde : EhFde
   pub row : Row
   pub has : HasRow m h address target fde row
-  pub step : IsStepBy (through_fde target fde row abi memory bits) old new frame
+  pub step : IsStepBy (through_fde target fde row (as_linked target m.load_address address) abi memory bits) old new frame
 
 -- A cursor takes a step by a look-up in place: by the FDE that covers the address that is looked up
 -- for its frame; or, if there is none, its walk ends, as in a closed process. If there is no address
@@ -181,4 +182,4 @@ pub record LacksPlaceIn (m : CModule) (h : CHeader) (address : ℕ) (abi : Abi) 
   pub fde : EhFde
   pub row : Row
   pub has : HasRow m h address target fde row
-  pub lacks : LacksPlace (through_fde target fde row abi memory 0).callers (registers_in c) (Some address)
+  pub lacks : LacksPlace (through_fde target fde row (as_linked target m.load_address address) abi memory 0).callers (registers_in c) (Some address)

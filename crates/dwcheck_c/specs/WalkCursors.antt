@@ -46,11 +46,11 @@ pub record IsStepBy (u : Unwinding) (old new : CCursor) (frame : CFrame) : Type 
   pub ends : IfSome (stop_of_caller walked.caller) (λ why. (new.stage ≡ stop_number why + 1) × (new.address ≡ old.address)
       × (registers_in new ≡ registers_in old))
 
--- unwinding by any look-up of rows: `Finds` says what it finds at an address, and `signals` which
--- addresses are those of signal frames
-abbrev pub through_rows : Target → (ℕ → Option (Row × ℕ) → Type 0) → (ℕ → Bool) → Abi → (ℕ → Option ℕ) → ℕ → Unwinding
-through_rows target Finds signals abi memory bits =
-    record { callers = over_rows target Finds abi memory; is_signal = signals; signed_bits = bits }
+-- unwinding by any look-up of rows: `Finds` says what it finds at an address, `signals` which addresses
+-- are those of signal frames, and `signed` at which ones return addresses are signed
+abbrev pub through_rows : Target → (ℕ → Option (Row × ℕ) → Type 0) → (ℕ → Bool) → (ℕ → Bool) → Abi → (ℕ → Option ℕ) → ℕ → Unwinding
+through_rows target Finds signals signed abi memory bits =
+    record { callers = over_rows target Finds abi memory; is_signal = signals; is_signed = signed; signed_bits = bits }
 
 -- a step through the modules of a process
 abbrev pub IsStep : Option ProcessState → Abi → (ℕ → Option ℕ) → ℕ → CCursor → CCursor → CFrame → Type 0

@@ -17,7 +17,7 @@ ghost use Rattle.dwcheck_c.specs.WalkCursors.{place_of};
 
 use crate::cursor::{CALLER, CCursor, EXACT, Stepped, fill, has_places, other_step};
 use crate::listed_registers::{ListedRegisters, looked_up_after};
-use crate::usual_steps::{usual_step, without_bits};
+use crate::usual_steps::{signed_bits_at, usual_step, without_bits};
 use dw_c_types::answer::{CFrame, c_frame_of};
 use dw_c_types::state::Contents;
 use dw_eval::{Memory, Registers};
@@ -61,7 +61,7 @@ fn write_rest<R: Registers, M: Memory>(
             return (count, Stop::Limit);
         }
         at = match return_address(unwound) {
-            Ok(next) => without_bits(bits, next),
+            Ok(next) => without_bits(signed_bits_at(process, bits, place), next),
             Err(stop) => return (count, stop),
         };
         place = looked_up_after(process, place, at);

@@ -13,7 +13,7 @@ ghost use Rattle.dw_c_types.specs.Slots.{put_into};
 ghost use Rattle.dw_c_types.specs.Faults.{Reports};
 ghost use Rattle.dw_c_types.specs.Frames.{IsBacktrace, cframe_of, stop_number};
 ghost use Rattle.dw_c_types.specs.Machine.{abi_fault_of, abi_in, is_known, memory_of, register_in, registers_of};
-ghost use Rattle.dw_c_types.specs.ProcessWalks.{over_process, through_held, through_process};
+ghost use Rattle.dw_c_types.specs.ProcessWalks.{bits_at, over_process, through_held, through_process};
 ghost use Rattle.dwcheck_c.specs.declared.cursor.CCursor.{CCursor as Cursor};
 ghost use Rattle.dwcheck_c.specs.declared.cursor.Stepped.{Stepped as Step};
 ghost use Rattle.dwcheck_c.specs.WalkCursors.{AreSteps, WalkHasEnded, IsStep, IsStepBy, LacksPlaceIn, looked_up_by, place_from, place_of, registers_in, through_rows};
@@ -22,7 +22,7 @@ ghost use Rattle.dwcheck_c.specs.Lent.{Reads, loan_of, read_by};
 use crate::backtrace::brief;
 use crate::process_reader::{LentProcess, put};
 use crate::read_right::Right;
-use crate::usual_steps::{looked_up_at, stage_of_caller, usual_step, without_bits};
+use crate::usual_steps::{looked_up_at, signed_bits_at, stage_of_caller, usual_step, without_bits};
 use dw_c_types::answer::{CFrame, c_frame_of};
 use dw_c_types::fault::{CFault, IN_ABI, report};
 use dw_c_types::state::{CState, Contents};
@@ -155,7 +155,8 @@ fn stage_after(stop: Stop) -> u32
 }
 
 /// Moves a cursor to the caller of its frame, by the row of `address`, in a way that needs a second
-/// file for the caller's registers. `is_signal` says whether that address is one of a signal frame.
+/// file for the caller's registers. `is_signal` says whether that address is one of a signal frame, and
+/// `bits` are those to take off the return address.
 #[inline(never)]
 pub(crate) fn step_by_copy<T: UnwindRows, M: Memory>(
     rows: &T,
@@ -169,9 +170,10 @@ pub(crate) fn step_by_copy<T: UnwindRows, M: Memory>(
     out: &mut CFrame,
 ) -> Stepped
     requires { looked_up_by cursor.old.stage cursor.old.address ≡ Some address }
-    ensures done { result ≢ Step.NoPlace → (signals : ℕ → Bool) → signals address ≡ is_signal
-        → IsStepBy (through_rows (T.target_of rows.now) (T.finds rows.now) signals
-        (abi_of kept.now stack_pointer) (M.bytes memory.now) bits) cursor.old cursor.new out.new }
+    ensures done { result ≢ Step.NoPlace → (signals signed : ℕ → Bool) (all : ℕ) → signals address ≡ is_signal
+        → bits_at signed all (Some address) ≡ bits
+        → IsStepBy (through_rows (T.target_of rows.now) (T.finds rows.now) signals signed
+        (abi_of kept.now stack_pointer) (M.bytes memory.now) all) cursor.old cursor.new out.new }
     ensures lacks { result ≡ Step.NoPlace → LacksPlace (over_rows (T.target_of rows.now)
         (T.finds rows.now) (abi_of kept.now stack_pointer) (M.bytes memory.now))
         (registers_in cursor.old) (looked_up_by cursor.old.stage cursor.old.address) }
@@ -244,7 +246,7 @@ pub(crate) fn other_step<M: Memory>(
         process.is_signal_frame(address),
         kept,
         stack_pointer,
-        bits,
+        signed_bits_at(process, bits, Some(address)),
         address,
         cursor,
         memory,

@@ -11,8 +11,11 @@ ghost use Rattle.dw_eh_frame.specs.Views.{eh_fde_of};
 ghost use Rattle.dw_in_place.specs.InPlace.{alone, row_of_fde};
 ghost use Rattle.dw_in_place.specs.SearchTables.{table_in};
 ghost use Rattle.dw_in_place.specs.Views.{section_of, table_of};
+ghost use Rattle.dw_rules.specs.ProgramFault.{cie_fault, fde_fault};
 ghost use Rattle.dw_rows.specs.RowLookups.{IsRowUnder};
 ghost use Rattle.dw_rows.specs.Section.{IsChecked};
+ghost use Rattle.dw_signed_rows.specs.SignedRows.{is_signed_in as signed_in};
+ghost use Rattle.dw_c_types.specs.ProcessWalks.{bits_at};
 ghost use Rattle.dwcheck_c.specs.InPlaceLookUps.{AreInPlace, HasRow, IsLookedUp, IsLookedUpCompactly, IsNoRow, IsRowGiven, IsStepIn, IsTableBy, IsUnusable, IsUsable, LacksPlaceIn, LooksUp, Says, is_aarch64_by, through_fde};
 ghost use Rattle.dw_unwind.specs.MissingPlaces.{LacksPlace};
 ghost use Rattle.dwcheck_c.specs.WalkCursors.{IsStepBy, looked_up_by, registers_in};
@@ -37,6 +40,7 @@ use dw_in_place::{
 };
 use dw_process::FoundRow;
 use dw_rules::UnwindRow;
+use dw_signed_rows::is_signed_in;
 use dw_unwind::{OneRow, as_linked};
 use std::alloc::Global;
 
@@ -167,11 +171,15 @@ pub(crate) fn look_up<'p, 'a>(
     ensures row { IfOk result (λ found. IfSome found (λ f.
         HasRow module.now header.now address f.target (eh_fde_of f.fde) f.row)) }
     ensures under { IfOk result (λ found. IfSome found (λ f. IsRowUnder f.target f.row)) }
+    ensures cie { IfOk result (λ found. IfSome found (λ f. cie_fault (eh_fde_of f.fde).cie.cie ≡ None)) }
+    ensures fde { IfOk result (λ found. IfSome found (λ f.
+        fde_fault (eh_fde_of f.fde).cie.cie (eh_fde_of f.fde).fde ≡ None)) }
     ensures none { IfOk result (λ found. IfNone found
         (IsLookedUp module.now header.now address (Ok None))) }
     ensures why { IfErr result (IsNoRow module.now header.now address) }
 {
     dw_rows::laws::rows_have_good_expressions();
+    dw_rows::laws::fdes_of_checked_sections();
     let place = in_place(module, header)?;
     let target = place.section.target;
     let linked = as_linked(target, module.load_address, address);
@@ -274,34 +282,53 @@ pub extern "C" fn dwcheck_row_in(
     }
 }
 
+/// The bits to take off a return address: `bits` if it is signed in the row that the FDE has for an
+/// address as linked, and none if it isn't.
+fn signed_bits_by(fde: &EhFde<'_>, bits: u64, linked: u64) -> u64
+    requires cie { cie_fault (eh_fde_of fde.now).cie.cie ≡ None }
+    requires fde { fde_fault (eh_fde_of fde.now).cie.cie (eh_fde_of fde.now).fde ≡ None }
+    ensures { (a : ℕ) → result ≡ bits_at (λ _. signed_in (eh_fde_of fde.now).cie.cie (eh_fde_of fde.now).fde linked) bits (Some a) }
+{
+    if bits != 0 && is_signed_in(&fde.cie.cie, &fde.fde, linked) {
+        bits
+    } else {
+        0
+    }
+}
+
 /// Writes the frame that a cursor is at to `frame`, and moves the cursor to the frame's caller, by
-/// the row that was found for `address`, the address that is looked up for the frame.
+/// the row that was found for `address`, the address that is looked up for the frame, which is `linked`
+/// as linked.
 fn step_by_fde(
     found: FoundInPlace<'_, '_>,
     address: u64,
+    linked: u64,
     cursor: &mut CCursor,
     state: &CState<'_>,
     frame: &mut CFrame,
 ) -> u32
     requires at { looked_up_by cursor.old.stage cursor.old.address ≡ Some address }
     requires under { IsRowUnder found.target found.row }
+    requires cie { cie_fault (eh_fde_of found.fde).cie.cie ≡ None }
+    requires fde { fde_fault (eh_fde_of found.fde).cie.cie (eh_fde_of found.fde).fde ≡ None }
     ensures done { result ≡ DONE → IsStepBy (through_fde found.entry.target
-        (eh_fde_of found.entry.fde) found.entry.row (abi_in state.now) (memory_of state.now)
+        (eh_fde_of found.entry.fde) found.entry.row linked (abi_in state.now) (memory_of state.now)
         state.now.signed_bits) cursor.old cursor.new frame.new }
     ensures lacks { result ≡ NO_PLACE → LacksPlace (through_fde found.entry.target
-        (eh_fde_of found.entry.fde) found.entry.row (abi_in state.now) (memory_of state.now)
+        (eh_fde_of found.entry.fde) found.entry.row linked (abi_in state.now) (memory_of state.now)
         0).callers (registers_in cursor.old) (Some address) }
     ensures codes { (result ≡ DONE) ⊎ (result ≡ NO_PLACE) }
     ensures unwritten { result ≢ DONE → (cursor.new ≡ cursor.old) × (frame.new ≡ frame.old) }
 {
     let FoundInPlace { target, row, fde } = found;
+    let bits = signed_bits_by(&fde, state.signed_bits, linked);
     let rows = OneRow::new(target, row, fde.cie.cie.return_address_register);
     match step_by_copy(
         &rows,
         fde.cie.augmentation.is_signal,
         state.kept,
         state.pointer(),
-        state.signed_bits,
+        bits,
         address,
         cursor,
         &state.memory(),
@@ -351,7 +378,10 @@ pub extern "C" fn dwcheck_step_in(
     };
     let mut memory = LookUpMemory::new(alloc);
     match look_up(module, header, address, &mut memory) {
-        Ok(Some(found)) => step_by_fde(found, address, cursor, state, frame),
+        Ok(Some(found)) => {
+            let linked = as_linked(found.target, module.load_address, address);
+            step_by_fde(found, address, linked, cursor, state, frame)
+        }
         Ok(None) => step_uncovered(cursor, frame),
         Err(why) => no_answer(why, fault),
     }

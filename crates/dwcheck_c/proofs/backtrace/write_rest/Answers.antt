@@ -5,7 +5,7 @@ use Rattle.dw_rules.specs.AbiViews.{roles_of}
 use Rattle.dw_unwind.specs.UnwoundViews.{caller_with}
 use Rattle.dw_unwind.specs.Walks.{Place, WalkedFrame, contents_of}
 use Rattle.dw_c_types.specs.Frames.{cframe_by, cframe_of}
-use Rattle.dw_c_types.specs.ProcessWalks.{Unwinding, signal_at, through_process}
+use Rattle.dw_c_types.specs.ProcessWalks.{Unwinding, signal_at, through_process, without_bits}
 use Rattle.dwcheck_c.proofs.CursorSteps.{caller-place, ends-with, next-is, place-by, same-contents}
 use Rattle.dwcheck_c.proofs.WrittenFrames.{ends, fills, full, gives, left-at}
 use Rattle.dwcheck_c.proofs.backtrace.write_rest.Goals as goal
@@ -55,7 +55,8 @@ loop-count-preserved g c =
             contents_of found,
             left-at u first p q f old (slice_set slots count out) (count + 1) (gives u first p f old slots count out k.1 (refl, k.2) shown)
                 (next-is u c.loop-count.place unwound found (contents_of found) c.in-Ok.next c.in-Ok.ensures (same-contents unwound found)
-                ∙ ap (λ (a : ℕ). Some (caller-place is_signal a (contents_of found))) (sym c.without_bits-at.ensures)
+                ∙ ap (λ (a : ℕ). Some (caller-place is_signal a (contents_of found)))
+                (sym (c.without_bits-at.ensures ∙ ap (λ (bits : ℕ). without_bits bits c.in-Ok.next) c.signed_bits_at.ensures))
                 ∙ ap (λ (o : Option ℕ). Some (place-by o at (contents_of found))) (sym c.looked_up_after-place.ensures)),
             c.advance-unwound.ensures,
           );

@@ -2,7 +2,7 @@ use Rattle.std.proofs.Common.{◌∙◌, Option, refl, subst, sym, ℕ}
 use Rattle.std.specs.Prelude.{None}
 use Rattle.dw_rules.specs.Abi.{abi_of}
 use Rattle.dw_unwind.specs.Walks.{UnwindsAt}
-use Rattle.dw_process.specs.Processes.{is_signal_in}
+use Rattle.dw_process.specs.Processes.{is_signal_in, is_signed_in}
 use Rattle.dw_c_types.specs.ProcessWalks.{Unwinding, through_process}
 use Rattle.dwcheck_c.specs.declared.cursor.CCursor.{CCursor}
 use Rattle.dwcheck_c.specs.WalkCursors.{registers_in}
@@ -19,4 +19,5 @@ returns-in_default-clause-done g c = λ _.
     c.end_uncovered.ensures.cursor c.end_uncovered.ensures.frame
 
 pub returns-clause-done : goal.returns-clause-done
-returns-clause-done g c = λ some. c.step_by_copy.ensures.done some (is_signal_in c.args.process.now) (sym c.is_signal_frame.ensures)
+returns-clause-done g c = λ some. c.step_by_copy.ensures.done some (is_signal_in c.args.process.now) (is_signed_in c.args.process.now)
+    c.args.bits (sym c.is_signal_frame.ensures) (sym c.signed_bits_at.ensures)

@@ -5,7 +5,7 @@ use Rattle.dw_unwind.specs.Contents.{UnwindsTo, contents_in}
 use Rattle.dw_unwind.specs.UnwoundViews.{caller_with}
 use Rattle.dw_unwind.specs.Walks.{WalkedFrame}
 use Rattle.dw_c_types.specs.Frames.{cframe_by, cframe_of}
-use Rattle.dw_c_types.specs.ProcessWalks.{Unwinding, through_process}
+use Rattle.dw_c_types.specs.ProcessWalks.{Unwinding, through_process, without_bits}
 use Rattle.dwcheck_c.specs.declared.cursor.CCursor.{CCursor}
 use Rattle.dwcheck_c.specs.WalkCursors.{looked_up_by, registers_in}
 use Rattle.dwcheck_c.proofs.CursorSteps.{step-goes}
@@ -31,4 +31,5 @@ returns-clause-steps g c = λ reserved.
     let f : WalkedFrame = record { address = old.address; caller = option_map (caller_with h.found) (Some w) } in
     let shown : c.c_frame_of.result ≡ cframe_of f = c.c_frame_of.ensures ∙ ap cframe_by (c.brief.ensures h.found) in
     step-goes u old new c.c_frame_of.result (Some w) to a c.in-Ok.next h (sym at) shown c.in-Ok.ensures
-    (c.stage_of_caller.ensures ∙ ap (λ (b : Bool). if b then 0 else 1) c.in_ok-unwound.ensures.signal) c.without_bits.ensures refl
+    (c.stage_of_caller.ensures ∙ ap (λ (b : Bool). if b then 0 else 1) c.in_ok-unwound.ensures.signal)
+    (c.without_bits.ensures ∙ ap (λ (bits : ℕ). without_bits bits c.in-Ok.next) c.in_ok-unwound.ensures.bits) refl
