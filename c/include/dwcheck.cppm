@@ -22,7 +22,7 @@ export using ::dwcheck_version, ::dwcheck_fault_name, ::dwcheck_fault_text, ::dw
     ::dwcheck_stop_text, ::dwcheck_check, ::dwcheck_report, ::dwcheck_process_add,
     ::dwcheck_process_remove, ::dwcheck_process_share, ::dwcheck_process_close, ::dwcheck_module_at,
     ::dwcheck_module_check, ::dwcheck_module_left_out, ::dwcheck_record_at, ::dwcheck_row_at,
-    ::dwcheck_is_signal_frame,
+    ::dwcheck_is_signal_frame, ::dwcheck_is_signed,
     ::dwcheck_rule_bytes, ::dwcheck_unwind, ::dwcheck_backtrace,
     ::dwcheck_backtrace_cached, ::dwcheck_cursor_init,
     ::dwcheck_cursor_step, ::dwcheck_cursor_step_with, ::dwcheck_row_in, ::dwcheck_step_in,

@@ -283,6 +283,11 @@ uint32_t dwcheck_row_at(const dwcheck_process *process, uint64_t address, dwchec
    frame was interrupted, so a walk looks it up at its own address. Returns DONE. */
 uint32_t dwcheck_is_signal_frame(const dwcheck_process *process, uint64_t address, uint32_t *is_signal_frame);
 
+/* Writes 1 to `is_signed` if the return address of a frame is signed at `address`, as loaded, by the module's .eh_frame
+   for aarch64 (DWCHECK_EH_FRAME_AARCH64), else 0. A walk makes this test at each address that it looks up, if the state
+   has signed_bits, and only then takes them off the return address. Returns DONE. */
+uint32_t dwcheck_is_signed(const dwcheck_process *process, uint64_t address, uint32_t *is_signed);
+
 /* Writes the bytes of a rule's expression to `bytes`, as many as fit, and their number to `size`. The rule is that of
    register `reg`, or of the CFA if `reg` is DWCHECK_CFA_RULE, in the row that dwcheck_row_at gives for `address`.
    Returns DONE; or NONE if there is no row, or if the rule has no expression. */
@@ -299,9 +304,9 @@ typedef struct dwcheck_block { uint64_t base; const uint8_t *bytes; size_t lengt
    blocks; if two blocks contain an address, the byte of the first block counts. The ABI is `kept` (the callee-saved
    registers, 127 at most) and, if has_stack_pointer isn't 0, stack_pointer. The ABI applies to registers to which the
    row gives no rule: in the caller, a register in `kept` has the value that it has now, the stack pointer is the CFA,
-   and any other register is undefined. The ABI names no register twice. `signed_bits` are the bits of a return address
-   that may have its signature (aarch64: the mask for code in NT_ARM_PAC_MASK). They are 0 in each address of code, and
-   walks leave them out of callers' addresses. */
+   and any other register is undefined. The ABI names no register twice. `signed_bits` are the bits of a signed return
+   address that have its signature (aarch64: the mask for code in NT_ARM_PAC_MASK). Walks take them off where the rows
+   say that the return address is signed (dwcheck_is_signed), and nowhere else. */
 typedef struct dwcheck_state {
     const uint64_t *contents; size_t contents_length;
     const uint8_t *known; size_t known_length;
@@ -330,10 +335,10 @@ typedef struct dwcheck_caller { dwcheck_answer cfa, return_address; uint64_t cou
 
 #define DWCHECK_MAX_REGISTERS 256
 /* Writes the caller of the frame at `address`, an address as loaded, by the row that dwcheck_row_at gives for it. The
-   address itself is looked up. So for the caller's own caller, pass the caller's return address without its signed
-   bits, minus 1 unless dwcheck_is_signal_frame wrote 1 for `address`. The caller's registers go into `registers` in
-   ascending order, as many as fit. Returns DONE; NONE if there is no row; or REFUSED if the ABI names too many
-   registers or names one twice. */
+   address itself is looked up. So for the caller's own caller, pass the caller's return address, without its signed
+   bits if dwcheck_is_signed wrote 1 for `address`, and minus 1 unless dwcheck_is_signal_frame did. The caller's
+   registers go into `registers` in ascending order, as many as fit. Returns DONE; NONE if there is no row; or REFUSED
+   if the ABI names too many registers or names one twice. */
 uint32_t dwcheck_unwind(const dwcheck_process *process, uint64_t address, const dwcheck_state *state, dwcheck_caller *caller,
                         dwcheck_register *registers, size_t registers_length, dwcheck_fault *fault);
 

@@ -147,6 +147,10 @@ extern "C" {
         is_signal_frame: *mut u32,
     ) -> u32;
 
+    /// Writes 1 to `is_signed` if the return address of a frame is signed at `address`, as loaded, by
+    /// the module's .eh_frame for aarch64, else 0. Returns DONE.
+    pub fn dwcheck_is_signed(process: *const Process, address: u64, is_signed: *mut u32) -> u32;
+
     /// Writes the bytes of a rule's expression to `bytes`, as many as fit, and their number to `size`.
     /// The rule is that of register `reg`, or of the CFA if `reg` is CFA_RULE, in the row that
     /// dwcheck_row_at gives for `address`. Returns DONE; or NONE if there is no row, or if the rule has
@@ -162,8 +166,8 @@ extern "C" {
 
     /// Writes the caller of the frame at `address`, an address as loaded, by the row that
     /// dwcheck_row_at gives for it. The address itself is looked up. So for the caller's own caller,
-    /// pass the caller's return address without its signed bits, minus 1 unless
-    /// dwcheck_is_signal_frame wrote 1 for `address`. The caller's registers go into `registers` in
+    /// pass the caller's return address, without its signed bits if dwcheck_is_signed wrote 1 for
+    /// `address`, and minus 1 unless dwcheck_is_signal_frame did. The caller's registers go into `registers` in
     /// ascending order, as many as fit. Returns DONE; NONE if there is no row; or REFUSED if the ABI
     /// names too many registers or names one twice. Only DONE writes `caller` and `registers`, and
     /// only REFUSED writes `fault`. The call neither allocates nor frees.

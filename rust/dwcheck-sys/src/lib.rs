@@ -267,8 +267,8 @@ pub struct Block {
 /// and, if has_stack_pointer isn't 0, stack_pointer. The ABI applies to registers to which the row
 /// gives no rule: in the caller, a register in `kept` has the value that it has now, the stack
 /// pointer is the CFA, and any other register is undefined. The ABI names no register twice.
-/// `signed_bits` are the bits of a return address that may have its signature, where return addresses
-/// are signed. They are 0 in each address of code; in walks they are no part of a caller's address.
+/// `signed_bits` are the bits of a signed return address that have its signature. Walks take them off
+/// where the rows say that the return address is signed, and nowhere else.
 #[repr(C)]
 pub struct State {
     pub contents: *const u64,

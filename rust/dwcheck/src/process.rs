@@ -67,9 +67,9 @@ pub struct Process {
 unsafe impl Send for Process {}
 
 // SAFETY: the calls that this crate makes with a `&Process` only read: `dwcheck_module_at`,
-// `dwcheck_row_at`, `dwcheck_is_signal_frame`, `dwcheck_rule_bytes`, `dwcheck_unwind`,
-// `dwcheck_backtrace`, `dwcheck_backtrace_cached`, `dwcheck_cursor_step`, `dwcheck_cursor_step_with`
-// and `dwcheck_process_share` take the process by a pointer to const, and the library allows any
+// `dwcheck_row_at`, `dwcheck_is_signal_frame`, `dwcheck_is_signed`, `dwcheck_rule_bytes`,
+// `dwcheck_unwind`, `dwcheck_backtrace`, `dwcheck_backtrace_cached`, `dwcheck_cursor_step`,
+// `dwcheck_cursor_step_with` and `dwcheck_process_share` take the process by a pointer to const, and the library allows any
 // number of them at once, in any threads. The calls that change a process, `dwcheck_process_add`,
 // `_remove` and `_close`, are made with a `&mut Process`.
 unsafe impl Sync for Process {}
@@ -255,6 +255,16 @@ impl Process {
         let mut flag = 0;
         // SAFETY: the process is only read, and `flag` is a local.
         unsafe { ffi::dwcheck_is_signal_frame(&self.raw, address, &mut flag) };
+        flag != 0
+    }
+
+    /// Whether the return address of a frame is signed at an address, as loaded, by the module's
+    /// `.eh_frame` for aarch64. A walk makes this test at each address that it looks up, and takes the
+    /// signature off only where it holds.
+    pub fn is_signed(&self, address: u64) -> bool {
+        let mut flag = 0;
+        // SAFETY: the process is only read, and `flag` is a local.
+        unsafe { ffi::dwcheck_is_signed(&self.raw, address, &mut flag) };
         flag != 0
     }
 
