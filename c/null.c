@@ -92,6 +92,15 @@ uint32_t dwcheck_row_in(const dwcheck_module *module, const dwcheck_header *head
     return proved_dwcheck_row_in(&section, &table, address, row, rules, rules_length, is_signal_frame, fault);
 }
 
+PROVED(dwcheck_is_signed_in);
+uint32_t dwcheck_is_signed_in(const dwcheck_module *module, const dwcheck_header *header, uint64_t address,
+                              uint32_t *is_signed, dwcheck_fault *fault) {
+    if (module->frame && header->bytes) return proved_dwcheck_is_signed_in(module, header, address, is_signed, fault);
+    const dwcheck_module section = module->frame ? *module : with_address(module);
+    const dwcheck_header table = header->bytes ? *header : header_with_address(header);
+    return proved_dwcheck_is_signed_in(&section, &table, address, is_signed, fault);
+}
+
 PROVED(dwcheck_step_in);
 uint32_t dwcheck_step_in(const dwcheck_module *module, const dwcheck_header *header, dwcheck_cursor *cursor,
                          const dwcheck_state *state, dwcheck_frame *frame, dwcheck_fault *fault) {

@@ -25,7 +25,8 @@ export using ::dwcheck_version, ::dwcheck_fault_name, ::dwcheck_fault_text, ::dw
     ::dwcheck_is_signal_frame, ::dwcheck_is_signed,
     ::dwcheck_rule_bytes, ::dwcheck_unwind, ::dwcheck_backtrace,
     ::dwcheck_backtrace_cached, ::dwcheck_cursor_init,
-    ::dwcheck_cursor_step, ::dwcheck_cursor_step_with, ::dwcheck_row_in, ::dwcheck_step_in,
+    ::dwcheck_cursor_step, ::dwcheck_cursor_step_with, ::dwcheck_row_in, ::dwcheck_is_signed_in,
+    ::dwcheck_step_in,
     ::dwcheck_rows_fill, ::dwcheck_rows_fill_compact, ::dwcheck_rows_forget, ::dwcheck_walk, ::dwcheck_walk_frames,
     ::dwcheck_cursor_at_place, ::dwcheck_place_of_cursor, ::dwcheck_evaluate,
     ::dwcheck_locations, ::dwcheck_list_locations;

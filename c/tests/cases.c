@@ -591,7 +591,37 @@ static void signal_walks(size_t its_registers) {
     dwcheck_process_close(&p);
 }
 
-/* Return addresses whose bits 48 to 54 have a signature, as those of aarch64 may. */
+/* An .eh_frame section at 0x2000, as for aarch64, of one function at 0x1000 up to 0x1020. Its return address is signed
+   from 0x1004 on, isn't from 0x100c on, is again from 0x1010 on, by a restore_state, and isn't from 0x1014 on. */
+static const uint8_t eh_signed[] = {
+    0x14, 0, 0, 0, 0, 0, 0, 0, 1, 'z', 'R', 0, 4, 0x78, 16, 1, 0x1b, 0x0c, 7, 8, 0x90, 1, 0, 0,
+    0x18, 0, 0, 0, 0x1c, 0, 0, 0, 0xe0, 0xef, 0xff, 0xff, 0x20, 0, 0, 0, 0,
+    0x41, 0x2d, 0x41, 0x0a, 0x41, 0x2d, 0x41, 0x0b, 0x41, 0x2d, 0};
+
+static dwcheck_module signed_module(void) {
+    dwcheck_module m = module_of(eh_signed, sizeof eh_signed, 0x20000);
+    m.kind = DWCHECK_EH_FRAME_AARCH64; m.section_address = 0x2000;
+    return m;
+}
+
+/* Where return addresses are signed: as 1 in this text, which has a digit for each four bytes of the function. */
+static void signed_addresses(void) {
+    static const char where[] = "01101000";
+    dwcheck_process p = DWCHECK_CLOSED;
+    uint32_t is_signed = 9;
+    IS(dwcheck_is_signed(&p, 0x21004, &is_signed), DWCHECK_DONE); IS(is_signed, 0);
+    IS(add_module(&p, signed_module()), DWCHECK_DONE);
+    for (uint64_t i = 0; i < 0x20; i++) {
+        is_signed = 9;
+        IS(dwcheck_is_signed(&p, 0x21000 + i, &is_signed), DWCHECK_DONE); IS(is_signed, (uint32_t)(where[i / 4] - '0'));
+    }
+    IS(dwcheck_is_signed(&p, 0x20fff, &is_signed), DWCHECK_DONE); IS(is_signed, 0);
+    IS(dwcheck_is_signed(&p, 0x21020, &is_signed), DWCHECK_DONE); IS(is_signed, 0);
+    dwcheck_process_close(&p);
+}
+
+/* Return addresses whose bits 48 to 54 have a signature, as those of aarch64 may. The first one is signed by its row, at
+   0x21004, and the second one isn't, at 0x2100f. */
 static void signed_walks(size_t its_registers) {
     static const uint64_t frame_words[2] = {0x7f000000021010, 0x12000000021020};
     uint64_t its_contents[97] = {0};
@@ -599,14 +629,30 @@ static void signed_walks(size_t its_registers) {
     dwcheck_block block = {0x7f00, (const uint8_t *)frame_words, 16};
     dwcheck_state s = {its_contents, its_registers, its_known, 13, &block, 1, NULL, 0, 7, 1, 0, 0};
     dwcheck_process p = DWCHECK_CLOSED;
-    IS(add(&p, 0x20000), DWCHECK_DONE);
+    IS(add_module(&p, signed_module()), DWCHECK_DONE);
     its_contents[7] = 0x7f00; its_known[12] = 1;
-    IS(walk_twice(&p, 0x21000, &s, frames, 8, &count, &stop, &fault), DWCHECK_DONE);
+    IS(walk_twice(&p, 0x21004, &s, frames, 8, &count, &stop, &fault), DWCHECK_DONE);
     IS(count, 2); IS(stop, DWCHECK_STOP_NOT_COVERED); IS(frames[1].address, 0x7f000000021010);
     s.signed_bits = 0x7f000000000000;
-    IS(walk_twice(&p, 0x21000, &s, frames, 8, &count, &stop, &fault), DWCHECK_DONE);
-    IS(count, 3); IS(stop, DWCHECK_STOP_RETURN_UNREADABLE);
-    IS(frames[1].address, 0x21010); IS(frames[2].address, 0x21020);
+    IS(walk_twice(&p, 0x21004, &s, frames, 8, &count, &stop, &fault), DWCHECK_DONE);
+    IS(count, 3); IS(stop, DWCHECK_STOP_NOT_COVERED);
+    IS(frames[1].address, 0x21010); IS(frames[2].address, 0x12000000021020);
+    if (its_registers == 17) {
+        const dwcheck_module module = signed_module();
+        const dwcheck_header none = {0};
+        dwcheck_cursor cursor, copy;
+        IS(dwcheck_cursor_init(&cursor, 0x21004, &s, 1, &fault), DWCHECK_DONE);
+        copy = cursor;
+        for (uint64_t i = 0; i < 0x20; i += 4) {
+            uint32_t here = 9, in_place = 9;
+            IS(dwcheck_is_signed(&p, 0x21000 + i, &here), DWCHECK_DONE);
+            IS(dwcheck_is_signed_in(&module, &none, 0x21000 + i, &in_place, &fault), DWCHECK_DONE); IS(in_place, here);
+        }
+        for (int i = 1; i < 3; i++) {
+            IS(dwcheck_cursor_step(&p, &cursor, &s, &frames[7]), DWCHECK_DONE); IS(cursor.address, frames[i].address);
+            IS(dwcheck_step_in(&module, &none, &copy, &s, &frames[7], &fault), DWCHECK_DONE); IS(copy.address, frames[i].address);
+        }
+    }
     dwcheck_process_close(&p);
 }
 
@@ -1198,6 +1244,7 @@ int main(void) {
     left_out();
     signal_walks(17);
     signal_walks(97);
+    signed_addresses();
     signed_walks(17);
     signed_walks(97);
     many_modules();

@@ -148,6 +148,14 @@ pub record IsRowGiven (m : CModule) (h : CHeader) (address : ℕ) (row : CRow) (
   }) row old new
   pub signal : is_signal ≡ (if fde.cie.augmentation.is_signal then 1 else 0)
 
+-- C is told whether the return address is signed in the row of an address.
+pub record IsSignedGiven (m : CModule) (h : CHeader) (address is_signed : ℕ) : Type 0 where
+  pub target : Target
+  pub fde : EhFde
+  pub found : Row
+  pub has : HasRow m h address target fde found
+  pub flag : is_signed ≡ (if is_signed_in fde.cie.cie fde.fde (as_linked target m.load_address address) then 1 else 0)
+
 -- ---- steps
 
 -- unwinding by a row of an FDE that was looked up for an address as linked

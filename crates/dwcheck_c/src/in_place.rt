@@ -16,7 +16,7 @@ ghost use Rattle.dw_rows.specs.RowLookups.{IsRowUnder};
 ghost use Rattle.dw_rows.specs.Section.{IsChecked};
 ghost use Rattle.dw_signed_rows.specs.SignedRows.{is_signed_in as signed_in};
 ghost use Rattle.dw_c_types.specs.ProcessWalks.{bits_at};
-ghost use Rattle.dwcheck_c.specs.InPlaceLookUps.{AreInPlace, HasRow, IsLookedUp, IsLookedUpCompactly, IsNoRow, IsRowGiven, IsStepIn, IsTableBy, IsUnusable, IsUsable, LacksPlaceIn, LooksUp, Says, is_aarch64_by, through_fde};
+ghost use Rattle.dwcheck_c.specs.InPlaceLookUps.{AreInPlace, HasRow, IsLookedUp, IsLookedUpCompactly, IsNoRow, IsRowGiven, IsSignedGiven, IsStepIn, IsTableBy, IsUnusable, IsUsable, LacksPlaceIn, LooksUp, Says, is_aarch64_by, through_fde};
 ghost use Rattle.dw_unwind.specs.MissingPlaces.{LacksPlace};
 ghost use Rattle.dwcheck_c.specs.WalkCursors.{IsStepBy, looked_up_by, registers_in};
 
@@ -275,6 +275,39 @@ pub extern "C" fn dwcheck_row_in(
                 row: found.row,
             };
             write_row(&found, row, rules);
+            DONE
+        }
+        Ok(None) => NONE,
+        Err(why) => no_answer(why, fault),
+    }
+}
+
+/// Looks up `address`, an address as loaded, as `dwcheck_row_in` does. `is_signed` becomes 1 if the
+/// return address is signed in its row, else 0.
+#[unsafe(no_mangle)]
+pub extern "C" fn dwcheck_is_signed_in(
+    alloc: Global,
+    module: &CModule<'_>,
+    header: &CHeader<'_>,
+    address: u64,
+    is_signed: &mut u32,
+    fault: &mut CFault,
+) -> u32
+    ensures signed { result ≡ DONE → IsSignedGiven module.now header.now address is_signed.new }
+    ensures none { result ≡ NONE → IsLookedUp module.now header.now address (Ok None) }
+    ensures refused { result ≡ REFUSED → (why : Why) × IsLookedUp module.now header.now address (Err why)
+        × (fault.new ≡ cfault_of IN_FRAME why) }
+    ensures room { result ≡ NO_ROOM → IsUsable module.now header.now }
+    ensures unusable { result ≢ DONE → result ≢ NONE → result ≢ REFUSED → result ≢ NO_ROOM
+        → IsUnusable module.now header.now result }
+    ensures unwritten { result ≢ DONE → is_signed.new ≡ is_signed.old }
+    ensures unreported { result ≢ REFUSED → fault.new ≡ fault.old }
+{
+    let mut memory = LookUpMemory::new(alloc);
+    match look_up(module, header, address, &mut memory) {
+        Ok(Some(found)) => {
+            let linked = as_linked(found.target, module.load_address, address);
+            *is_signed = u32::from(is_signed_in(&found.fde.cie.cie, &found.fde.fde, linked));
             DONE
         }
         Ok(None) => NONE,

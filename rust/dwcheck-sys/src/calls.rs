@@ -268,6 +268,17 @@ extern "C" {
         fault: *mut Fault,
     ) -> u32;
 
+    /// Looks up `address` as dwcheck_row_in does, and writes 1 to `is_signed` if the return address is
+    /// signed in its row, else 0. Returns what dwcheck_row_in returns. Only DONE writes `is_signed`, and
+    /// only REFUSED writes `fault`.
+    pub fn dwcheck_is_signed_in(
+        module: *const Module,
+        header: *const Header,
+        address: u64,
+        is_signed: *mut u32,
+        fault: *mut Fault,
+    ) -> u32;
+
     /// Steps as dwcheck_cursor_step does, by the row that dwcheck_row_in finds for the frame. If it
     /// finds none, the walk ends. Returns DONE; NONE if the walk has ended; NO_PLACE; or any other
     /// status that dwcheck_row_in returns. Only DONE changes `cursor` and `frame`, and only REFUSED

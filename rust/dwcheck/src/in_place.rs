@@ -102,6 +102,32 @@ impl<'a> EhFrameInPlace<'a> {
         Ok(found.map_or(false, |(_, is_signal_frame)| is_signal_frame))
     }
 
+    /// Whether the return address is signed at an address, as loaded, as
+    /// [`Process::is_signed`](crate::Process::is_signed) says it. No memory is allocated.
+    ///
+    /// # Errors
+    ///
+    /// The same as those of [`row`](EhFrameInPlace::row).
+    pub fn is_signed(&self, address: u64) -> Result<bool, Error> {
+        let mut is_signed = 0;
+        let mut fault = ffi::Fault::default();
+        // SAFETY: the section and its header are only read, and the other pointers are to locals.
+        let status = unsafe {
+            ffi::dwcheck_is_signed_in(
+                &self.module.raw(self.section, self.target),
+                &self.raw_header(),
+                address,
+                &mut is_signed,
+                &mut fault,
+            )
+        };
+        if status == ffi::NONE {
+            return Ok(false);
+        }
+        Error::check(status, fault)?;
+        Ok(is_signed != 0)
+    }
+
     /// The frame that a cursor is at. Moves the cursor to the frame's caller, as
     /// [`Process::step`](crate::Process::step) does, by the row of the frame. If no FDE covers the frame,
     /// the walk ends: for each step, choose the module that has the cursor's address.
