@@ -1,6 +1,6 @@
 /* Prints the rows of a library for arm64, as tests/arm64/rows.py compares them with those that readelf prints: for each
-   address on standard input a line with the CFA and the rules. The row is that of the section, added to a process; a
-   look-up in place must give the same.
+   address on standard input a line with the CFA and the rules, and `signed` if the return address is signed. The row is
+   that of the section, added to a process; a look-up in place must give the same.
    usage: rows LIBRARY */
 #include "../../c/tests/elf_file.h"
 #include "dwcheck.h"
@@ -20,12 +20,12 @@ static void print_rule(const dwcheck_rule *rule) {
     }
 }
 
-static void print_row(uint64_t address, const dwcheck_row *row, const dwcheck_rule *rules) {
+static void print_row(uint64_t address, const dwcheck_row *row, const dwcheck_rule *rules, uint32_t is_signed) {
     printf("%" PRIx64 " ", address);
     if (row->cfa.kind == DWCHECK_RULE_VAL_OFFSET) printf("%u%+" PRId64, row->cfa.reg, row->cfa.offset);
     else printf("exp");
     for (uint32_t i = 0; i < row->count; i++) print_rule(&rules[i]);
-    printf("\n");
+    printf("%s\n", is_signed ? " signed" : "");
 }
 
 /* Where the section of this name is, as a module. */
@@ -43,11 +43,12 @@ static dwcheck_header header_of(const struct file *file) {
 
 /* Whether a look-up in place gives the row that the process has. */
 static int is_in_place(const dwcheck_module *module, const dwcheck_header *header, uint64_t address, const dwcheck_row *row,
-                       const dwcheck_rule *rules) {
+                       const dwcheck_rule *rules, uint32_t is_signed) {
     static dwcheck_rule others[DWCHECK_MAX_RULES];
     dwcheck_row other;
     dwcheck_fault fault;
-    uint32_t is_signal_frame;
+    uint32_t is_signal_frame, is_signed_in;
+    if (dwcheck_is_signed_in(module, header, address, &is_signed_in, &fault) != DWCHECK_DONE || is_signed_in != is_signed) return 0;
     if (dwcheck_row_in(module, header, address, &other, others, DWCHECK_MAX_RULES, &is_signal_frame, &fault) != DWCHECK_DONE) return 0;
     return other.start == row->start && other.count == row->count && other.cfa.reg == row->cfa.reg
            && other.cfa.offset == row->cfa.offset && memcmp(rules, others, row->count * sizeof *rules) == 0;
@@ -63,11 +64,13 @@ int main(int count, char **arguments) {
     dwcheck_fault fault;
     dwcheck_row row;
     uint64_t id, address;
+    uint32_t is_signed;
     if (dwcheck_process_add(&process, &module, &id, &fault) != DWCHECK_DONE) return 1;
     while (scanf("%" SCNx64, &address) == 1) {
+        dwcheck_is_signed(&process, address, &is_signed);
         const int is_there = dwcheck_row_at(&process, address, &row, rules, DWCHECK_MAX_RULES) == DWCHECK_DONE;
-        if (!is_there || !is_in_place(&module, &header, address, &row, rules)) printf("%" PRIx64 " none\n", address);
-        else print_row(address, &row, rules);
+        if (!is_there || !is_in_place(&module, &header, address, &row, rules, is_signed)) printf("%" PRIx64 " none\n", address);
+        else print_row(address, &row, rules, is_signed);
     }
     dwcheck_process_close(&process);
     return 0;

@@ -1,5 +1,5 @@
 #!/usr/bin/env python3
-"""Compares the rows of libraries for arm64 with those that readelf prints.
+"""Compares the rows of libraries for arm64 with those that readelf prints, and where return addresses are signed.
 
     tests/arm64/rows.py LIBRARY.. -- COMMAND..
 
@@ -62,27 +62,60 @@ def rows_of_readelf(library):
     return rows
 
 
+def signed_by_readelf(library):
+    """The first addresses of rows in which the return address is signed, by the instructions of .eh_frame."""
+    text = subprocess.run([READELF, "--wide", "--debug-dump=frames", library], capture_output=True, text=True, check=True).stdout
+    signed, by_cie, cie, address, is_inside = set(), {}, None, None, False
+    is_signed, saved = False, []
+    for line in text.splitlines():
+        if line.startswith("Contents of the"):
+            is_inside = ".eh_frame" in line
+        elif found := re.match(r"([0-9a-f]{8}) .* CIE$", line):
+            cie, address, is_signed, saved = found[1], None, False, []
+        elif found := re.search(r" FDE cie=([0-9a-f]+) pc=([0-9a-f]+)\.\.", line):
+            cie, address, is_signed, saved = None, int(found[2], 16), by_cie[found[1]], []
+        elif found := re.match(r"  DW_CFA_(?:advance_loc|set_loc)\S*: .*?([0-9a-f]+)$", line):
+            address = int(found[1], 16)
+        elif line.startswith("  DW_CFA_AARCH64_negate_ra_state"):
+            is_signed = not is_signed
+        elif line == "  DW_CFA_remember_state":
+            saved.append(is_signed)
+        elif line == "  DW_CFA_restore_state":
+            is_signed = saved.pop()
+        if cie is not None:
+            by_cie[cie] = is_signed
+        elif is_inside and address is not None:
+            (signed.add if is_signed else signed.discard)(address)
+    return signed
+
+
 def rows_of_command(command, library, addresses):
-    """The same for these addresses, by the program."""
+    """The same for these addresses, by the program, and where it says that the return address is signed."""
     asked = subprocess.run([*command, library], input="".join(f"{address:x}\n" for address in addresses), capture_output=True,
                            text=True, check=True)
-    rows = {}
+    rows, signed = {}, set()
     for line in asked.stdout.splitlines():
         address, cfa, *rules = line.split()
+        if rules[-1:] == ["signed"]:
+            signed.add(int(address, 16))
+            rules.pop()
         pairs = [rule.split(":") for rule in rules]
         rows[int(address, 16)] = cfa, [(int(number), rule) for number, rule in pairs if rule != "u"]
-    return rows
+    return rows, signed
 
 
 def compare(command, library):
     """Prints how many rows of a library are readelf's. Returns whether all are, and there are enough."""
     wanted = rows_of_readelf(library)
-    found = rows_of_command(command, library, wanted)
+    found, signed = rows_of_command(command, library, wanted)
+    unlike = sorted(signed ^ (signed_by_readelf(library) & wanted.keys()))
     wrong = [address for address, row in wanted.items() if found.get(address) != row]
     for address in wrong[:SHOWN]:
         print(f"{address:#x}: readelf {wanted[address]}, not {found.get(address)}")
-    print(f"{library}: {len(wanted)} rows, {len(wrong)} differ")
-    return not wrong and len(wanted) >= LEAST
+    for address in unlike[:SHOWN]:
+        print(f"{address:#x}: {'only here' if address in signed else 'only by readelf'} the return address is signed")
+    print(f"{library}: {len(wanted)} rows, {len(wrong)} differ; signed in {len(signed)}, otherwise in {len(unlike)}")
+    return not wrong and not unlike and len(wanted) >= LEAST
 
 
 def main():
