@@ -55,16 +55,25 @@ pub(crate) fn stage_of_caller(is_signal_frame: bool) -> u32
 }
 
 /// The bits to take off a return address: `bits` if it is signed at this address of the module, and
-/// none if it isn't. If `bits` is 0, nothing is looked up.
+/// none if it isn't. The search is a call of its own, so that walks whose return addresses have no
+/// signature save no registers for it.
+#[cold]
+#[inline(never)]
+fn searched_bits(module: &ModuleRows<'_>, bits: u64, address: u64) -> u64
+    ensures { result ≡ bits_at (is_signed_in_module (Some module.now)) bits (Some address) }
+{
+    if module.is_signed(address) { bits } else { 0 }
+}
+
+/// What `searched_bits` returns. If `bits` is 0, nothing is searched.
 #[inline(always)]
 fn signed_bits_in(module: &ModuleRows<'_>, bits: u64, address: u64) -> u64
     ensures { result ≡ bits_at (is_signed_in_module (Some module.now)) bits (Some address) }
 {
-    if bits != 0 && module.is_signed(address) {
-        bits
-    } else {
-        0
+    if bits == 0 {
+        return 0;
     }
+    searched_bits(module, bits, address)
 }
 
 /// The bits to take off the return address of a frame for which `looked_up` is looked up: `bits` if the
