@@ -450,8 +450,8 @@ typedef struct dwcheck_header { const uint8_t *bytes; size_t length; uint64_t ad
 uint32_t dwcheck_row_in(const dwcheck_module *module, const dwcheck_header *header, uint64_t address, dwcheck_row *row,
                         dwcheck_rule *rules, size_t rules_length, uint32_t *is_signal_frame, dwcheck_fault *fault);
 
-/* Looks up `address` as dwcheck_row_in does, and writes 1 to `is_signed` if the return address is signed in its row, else
-   0 (dwcheck_is_signed). Returns what dwcheck_row_in returns. */
+/* Looks up `address` as dwcheck_row_in does, and writes 1 to `is_signed` if the return address is signed in its row,
+   else 0 (dwcheck_is_signed). Returns what dwcheck_row_in returns. */
 uint32_t dwcheck_is_signed_in(const dwcheck_module *module, const dwcheck_header *header, uint64_t address,
                               uint32_t *is_signed, dwcheck_fault *fault);
 

@@ -111,8 +111,8 @@ pub struct CState<'a> {
     pub stack_pointer: u16,
     pub has_stack_pointer: u16,
     pub reserved: u32,
-    /// The bits of a signed return address that have its signature. They are taken off only where the
-    /// module says that the return address is signed.
+    /// The bits of a signed return address that have its signature. They are taken off only where
+    /// the module says that the return address is signed.
     pub signed_bits: u64,
 }
 

@@ -61,8 +61,8 @@ pub record IsReady (frame : FrameSection) (load_address : ℕ) (given : Option A
 -- A table of the rows of a checked section is added, at some place, to the modules, which are in
 -- order of address. The new module has the id `id`, which is counted up, and these marks.
 -- What the table stores is at most `room` bytes (`IsStored`).
-pub record IsAddedWith (frame : FrameSection) (marks : Marks) (load_address : ℕ) (given : Option AddressRange) (cookie room : ℕ) (old : ProcessState) (id : ℕ)
-    (new : ProcessState) : Type 0 where
+pub record IsAddedWith (frame : FrameSection) (marks : Marks) (load_address : ℕ) (given : Option AddressRange) (cookie room : ℕ)
+    (old : ProcessState) (id : ℕ) (new : ProcessState) : Type 0 where
   pub added : LoadedModule
   pub table : IsStored frame room added.rows
   pub range : IsRangeFor frame load_address given added.range

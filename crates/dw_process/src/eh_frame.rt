@@ -30,8 +30,8 @@ pub struct EhSection<'a> {
     pub is_aarch64: bool,
 }
 
-/// The marks of a checked section with these signal frames. Only programs for aarch64 say where return
-/// addresses are signed.
+/// The marks of a checked section with these signal frames. Only programs for aarch64 say where
+/// return addresses are signed.
 fn marks_with(
     alloc: Global,
     frame: &CheckedFrame<'_>,
@@ -39,7 +39,8 @@ fn marks_with(
     is_aarch64: bool,
 ) -> Result<FrameMarks, Fault>
     ensures signals { IfOk result (λ marks. marks.signals.items ≡ signals.items) }
-    ensures signed { IfOk result (λ marks. (a : ℕ) → has_signed marks.signed a ≡ (is_aarch64 && is_signed_of frame.now a)) }
+    ensures signed { IfOk result (λ marks. (a : ℕ) → has_signed marks.signed a
+        ≡ (is_aarch64 && is_signed_of frame.now a)) }
     ensures lack { IfErr result (λ fault. fault ≡ memory) }
 {
     let signed = if is_aarch64 {
@@ -55,8 +56,8 @@ impl Process {
     /// module, as `add` does with a `.debug_frame` section. The section's addresses are as linked.
     /// The rows are those of the section's own programs; instructions of vendors change no rule.
     ///
-    /// A fault is the first one of `dw_eh_rows::check_eh_frame`. What the check takes is freed before
-    /// the call returns. After an error the process is unchanged.
+    /// A fault is the first one of `dw_eh_rows::check_eh_frame`. What the check takes is freed
+    /// before the call returns. After an error the process is unchanged.
     pub fn add_eh_frame(
         &mut self,
         alloc: Global,
@@ -90,12 +91,12 @@ impl Process {
         }
     }
 
-    /// Adds an `.eh_frame` section as `add_eh_frame` does, but if the section has a fault, without its
-    /// bad records (`dw_eh_rows::check_eh_frame_leaving_out`, which also lists them). The rows of all
-    /// others are added. If no range is given, it is that of what is kept.
+    /// Adds an `.eh_frame` section as `add_eh_frame` does, but if the section has a fault, without
+    /// its bad records (`dw_eh_rows::check_eh_frame_leaving_out`, which also lists them). The rows
+    /// of all others are added. If no range is given, it is that of what is kept.
     ///
-    /// A fault is one of the section as a whole: of a record's length, or of two FDEs that cover one
-    /// address. After an error the process is unchanged.
+    /// A fault is one of the section as a whole: of a record's length, or of two FDEs that cover
+    /// one address. After an error the process is unchanged.
     pub fn add_eh_frame_leaving_out(
         &mut self,
         alloc: Global,

@@ -19,6 +19,7 @@ pub struct LoadedModule {
     pub range: AddressRange,
     /// The module's rows.
     pub rows: SharedTable,
-    /// Which addresses, as linked, are those of signal frames, and at which return addresses are signed.
+    /// Which addresses, as linked, are those of signal frames, and at which return addresses are
+    /// signed.
     pub marks: SharedMarks,
 }

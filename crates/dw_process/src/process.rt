@@ -319,7 +319,7 @@ impl Process {
 
     /// Whether the return address of a frame is signed at an address as loaded (aarch64's pointer
     /// authentication). Only `.eh_frame` for aarch64 says so. O(log n) among n modules, and among n
-    /// functions of the module that sign theirs.
+    /// stretches of code in which the module's functions sign theirs.
     pub fn is_signed(&self, address: u64) -> bool
         ensures { result ≡ is_signed_in self.now address }
     {

@@ -64,7 +64,7 @@ impl SharedMarks {
     }
 
     /// Whether the return address is signed at an address, as linked, in O(log n) steps for n
-    /// functions that sign it.
+    /// stretches of code in which it is.
     pub fn is_signed(&self, address: u64) -> bool
         ensures { result ≡ has_signed self.now.signed address }
     {

@@ -32,7 +32,8 @@ pub record IsRunning (c : Cie) (f : Fde) (items : List (Result (ℕ × Instructi
   pub signature : IsAfter c before m.signature
 
 -- whether the address has one of the rows that are left, and the return address is signed there
-abbrev pub is_left_signed : (c : Cie) (f : Fde) (items : List (Result (ℕ × Instruction) Fault)) (m : SignedState) → IsRunning c f items m → ℕ → Bool
+abbrev pub is_left_signed : (c : Cie) (f : Fde) (items : List (Result (ℕ × Instruction) Fault)) (m : SignedState)
+    → IsRunning c f items m → ℕ → Bool
 is_left_signed c f items m run a = is_signed_after c (fde_start c f) (signed_by_cie c) run.before (instructions_in items) a
 
 -- whether the row has the address, and the return address is signed in it
@@ -40,8 +41,8 @@ abbrev pub is_signed_row : SignedRow → ℕ → Bool
 is_signed_row row a = (nat_le row.start a && nat_lt a row.end) && row.is_signed
 
 -- the row was the first one of those that were left, and there are others
-pub record HasPassed (c : Cie) (f : Fde) (items : List (Result (ℕ × Instruction) Fault)) (m : SignedState) (run : IsRunning c f items m) (row : SignedRow)
-    (rest : List (Result (ℕ × Instruction) Fault)) (new : SignedState) : Type 0 where
+pub record HasPassed (c : Cie) (f : Fde) (items : List (Result (ℕ × Instruction) Fault)) (m : SignedState)
+    (run : IsRunning c f items m) (row : SignedRow) (rest : List (Result (ℕ × Instruction) Fault)) (new : SignedState) : Type 0 where
   pub on : IsRunning c f rest new
   pub parted : (a : ℕ) → is_left_signed c f items m run a ≡ (is_signed_row row a || is_left_signed c f rest new on a)
   pub start : row.start ≡ m.location
@@ -49,13 +50,14 @@ pub record HasPassed (c : Cie) (f : Fde) (items : List (Result (ℕ × Instructi
   pub forward : m.location ≤ new.location
 
 -- the row was the last one
-pub record HasPassedLast (c : Cie) (f : Fde) (items : List (Result (ℕ × Instruction) Fault)) (m : SignedState) (run : IsRunning c f items m) (row : SignedRow) : Type 0 where
+pub record HasPassedLast (c : Cie) (f : Fde) (items : List (Result (ℕ × Instruction) Fault)) (m : SignedState)
+    (run : IsRunning c f items m) (row : SignedRow) : Type 0 where
   pub whole : (a : ℕ) → is_left_signed c f items m run a ≡ is_signed_row row a
   pub start : row.start ≡ m.location
   pub end : row.end ≡ f.initial_location + f.address_range
 
 -- what running a program up to the end of a row returns and changes
-abbrev pub Passes : (c : Cie) (f : Fde) (items : List (Result (ℕ × Instruction) Fault)) (m : SignedState) → IsRunning c f items m → Bool → SignedRow
-    → List (Result (ℕ × Instruction) Fault) → SignedState → Type 0
+abbrev pub Passes : (c : Cie) (f : Fde) (items : List (Result (ℕ × Instruction) Fault)) (m : SignedState)
+    → IsRunning c f items m → Bool → SignedRow → List (Result (ℕ × Instruction) Fault) → SignedState → Type 0
 Passes c f items m run true row rest new = HasPassedLast c f items m run row
 Passes c f items m run false row rest new = HasPassed c f items m run row rest new × (length rest < length items)

@@ -26,7 +26,11 @@ impl Model for Signature {
 
     ghost Value = { SignatureState };
 
-    ghost view = { λ s. record { first = s.first; is_signed = s.is_signed; remembered = reverse s.remembered.items } };
+    ghost view = { λ s. record {
+      first = s.first;
+      is_signed = s.is_signed;
+      remembered = reverse s.remembered.items;
+    } };
 }
 
 impl Signature {
@@ -52,7 +56,8 @@ impl Signature {
 
     /// Runs an instruction.
     pub fn run(&mut self, instruction: CallFrameInstruction<'_>)
-        requires { instruction_of instruction ≡ remember_state → length self.old.remembered < MAX_REMEMBERED }
+        requires { instruction_of instruction ≡ remember_state
+            → length self.old.remembered < MAX_REMEMBERED }
         ensures first { self.new.first ≡ self.old.first }
         ensures after { (cie : Cie) (before : List Instruction) → IsAfter cie before self.old
             → IsAfter cie (instruction_of instruction.entry ∷ before) self.new }

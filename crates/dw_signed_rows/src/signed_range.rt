@@ -13,8 +13,8 @@ pub struct SignedRange {
     pub end: u64,
 }
 
-/// Appends a range, which begins at the end of the last one or above it. If it begins at that end, the
-/// last range is made longer instead.
+/// Appends a range, which begins at the end of the last one or above it. If it begins at that end,
+/// the last range is made longer instead.
 pub(crate) fn push_range(ranges: &mut Vec<SignedRange>, range: SignedRange) -> Result<(), Fault>
     requires order { AreInOrder 0 ranges.old.items }
     requires low { ends_at 0 ranges.old.items ≤ range.start }

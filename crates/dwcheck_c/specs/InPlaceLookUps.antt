@@ -190,4 +190,5 @@ pub record LacksPlaceIn (m : CModule) (h : CHeader) (address : ℕ) (abi : Abi) 
   pub fde : EhFde
   pub row : Row
   pub has : HasRow m h address target fde row
-  pub lacks : LacksPlace (through_fde target fde row (as_linked target m.load_address address) abi memory 0).callers (registers_in c) (Some address)
+  pub lacks : LacksPlace (through_fde target fde row (as_linked target m.load_address address) abi memory 0).callers
+      (registers_in c) (Some address)

@@ -155,8 +155,8 @@ fn stage_after(stop: Stop) -> u32
 }
 
 /// Moves a cursor to the caller of its frame, by the row of `address`, in a way that needs a second
-/// file for the caller's registers. `is_signal` says whether that address is one of a signal frame, and
-/// `bits` are those to take off the return address.
+/// file for the caller's registers. `is_signal` says whether that address is one of a signal frame,
+/// and `bits` are those to take off the return address.
 #[inline(never)]
 pub(crate) fn step_by_copy<T: UnwindRows, M: Memory>(
     rows: &T,
@@ -170,7 +170,8 @@ pub(crate) fn step_by_copy<T: UnwindRows, M: Memory>(
     out: &mut CFrame,
 ) -> Stepped
     requires { looked_up_by cursor.old.stage cursor.old.address ≡ Some address }
-    ensures done { result ≢ Step.NoPlace → (signals signed : ℕ → Bool) (all : ℕ) → signals address ≡ is_signal
+    ensures done { result ≢ Step.NoPlace → (signals signed : ℕ → Bool) (all : ℕ)
+        → signals address ≡ is_signal
         → bits_at signed all (Some address) ≡ bits
         → IsStepBy (through_rows (T.target_of rows.now) (T.finds rows.now) signals signed
         (abi_of kept.now stack_pointer) (M.bytes memory.now) all) cursor.old cursor.new out.new }

@@ -138,8 +138,8 @@ fn in_place<'a, 'h>(module: &CModule<'a>, header: &CHeader<'h>) -> Result<InPlac
     Ok(InPlace { section, table })
 }
 
-/// The row of an address as linked, and its FDE: by the table, or, if there is none, by going through
-/// the records.
+/// The row of an address as linked, and its FDE: by the table, or, if there is none, by going
+/// through the records.
 fn find_row<'p, 'a>(
     place: &InPlace<'a, '_>,
     address: u64,
@@ -171,7 +171,8 @@ pub(crate) fn look_up<'p, 'a>(
     ensures row { IfOk result (λ found. IfSome found (λ f.
         HasRow module.now header.now address f.target (eh_fde_of f.fde) f.row)) }
     ensures under { IfOk result (λ found. IfSome found (λ f. IsRowUnder f.target f.row)) }
-    ensures cie { IfOk result (λ found. IfSome found (λ f. cie_fault (eh_fde_of f.fde).cie.cie ≡ None)) }
+    ensures cie { IfOk result (λ found. IfSome found (λ f.
+        cie_fault (eh_fde_of f.fde).cie.cie ≡ None)) }
     ensures fde { IfOk result (λ found. IfSome found (λ f.
         fde_fault (eh_fde_of f.fde).cie.cie (eh_fde_of f.fde).fde ≡ None)) }
     ensures none { IfOk result (λ found. IfNone found
@@ -283,7 +284,8 @@ pub extern "C" fn dwcheck_row_in(
 }
 
 /// Looks up `address`, an address as loaded, as `dwcheck_row_in` does. `is_signed` becomes 1 if the
-/// return address is signed in its row, else 0.
+/// return address is signed in its row, else 0. `NO_ROOM` comes as in `dwcheck_row_in`, though no
+/// expression is needed here.
 #[unsafe(no_mangle)]
 pub extern "C" fn dwcheck_is_signed_in(
     alloc: Global,
@@ -320,7 +322,8 @@ pub extern "C" fn dwcheck_is_signed_in(
 fn signed_bits_by(fde: &EhFde<'_>, bits: u64, linked: u64) -> u64
     requires cie { cie_fault (eh_fde_of fde.now).cie.cie ≡ None }
     requires fde { fde_fault (eh_fde_of fde.now).cie.cie (eh_fde_of fde.now).fde ≡ None }
-    ensures { (a : ℕ) → result ≡ bits_at (λ _. signed_in (eh_fde_of fde.now).cie.cie (eh_fde_of fde.now).fde linked) bits (Some a) }
+    ensures { (a : ℕ) → result ≡ bits_at
+        (λ _. signed_in (eh_fde_of fde.now).cie.cie (eh_fde_of fde.now).fde linked) bits (Some a) }
 {
     if bits != 0 && is_signed_in(&fde.cie.cie, &fde.fde, linked) {
         bits
@@ -330,8 +333,8 @@ fn signed_bits_by(fde: &EhFde<'_>, bits: u64, linked: u64) -> u64
 }
 
 /// Writes the frame that a cursor is at to `frame`, and moves the cursor to the frame's caller, by
-/// the row that was found for `address`, the address that is looked up for the frame, which is `linked`
-/// as linked.
+/// the row that was found for `address`, the address that is looked up for the frame, which is
+/// `linked` as linked.
 fn step_by_fde(
     found: FoundInPlace<'_, '_>,
     address: u64,

@@ -1,4 +1,5 @@
-//! The C calls that say whether a frame is a signal frame, and whether its return address is signed.
+//! The C calls that say whether a frame is a signal frame, and whether its return address is
+//! signed.
 
 ghost use Rattle.std.specs.Prelude.{◌≡◌};
 ghost use Rattle.dwcheck_c.specs.Lent.{Reads, loan_of, read_by};
@@ -44,8 +45,8 @@ pub extern "C" fn dwcheck_is_signal_frame(
     DONE
 }
 
-/// Writes 1 to `flag` if the return address of a frame is signed at `address`, an address as loaded,
-/// and 0 if it isn't.
+/// Writes 1 to `flag` if the return address of a frame is signed at `address`, an address as
+/// loaded, and 0 if it isn't.
 #[unsafe(no_mangle)]
 pub extern "C" fn dwcheck_is_signed(
     process: &LentProcess,

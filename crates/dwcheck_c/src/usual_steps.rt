@@ -76,8 +76,8 @@ fn signed_bits_in(module: &ModuleRows<'_>, bits: u64, address: u64) -> u64
     searched_bits(module, bits, address)
 }
 
-/// The bits to take off the return address of a frame for which `looked_up` is looked up: `bits` if the
-/// return address is signed there, and none if it isn't.
+/// The bits to take off the return address of a frame for which `looked_up` is looked up: `bits` if
+/// the return address is signed there, and none if it isn't.
 pub(crate) fn signed_bits_at(process: &Process, bits: u64, looked_up: Option<u64>) -> u64
     ensures { result ≡ bits_at (is_signed_in process.now) bits looked_up }
 {
@@ -88,8 +88,8 @@ pub(crate) fn signed_bits_at(process: &Process, bits: u64, looked_up: Option<u64
 }
 
 /// Takes a usual step (`step_in_place`) with the rows of the module that has the address. Also
-/// returns whether the frame is a signal frame, and the bits to take off its return address. None if
-/// the step isn't a usual one, or there is no caller; then no content has changed.
+/// returns whether the frame is a signal frame, and the bits to take off its return address. None
+/// if the step isn't a usual one, or there is no caller; then no content has changed.
 #[inline(always)]
 fn step_in_module<H: RowHints, M: Memory>(
     process: &Process,
@@ -108,7 +108,8 @@ fn step_in_module<H: RowHints, M: Memory>(
     ensures known { IfSome result (λ stepped. (next : ℕ)
         × (answer_in (stepped.0).return_address ≡ value next)) }
     ensures signal { IfSome result (λ stepped. stepped.1 ≡ is_signal_in process.now address) }
-    ensures bits { IfSome result (λ stepped. stepped.2 ≡ bits_at (is_signed_in process.now) bits (Some address)) }
+    ensures bits { IfSome result
+        (λ stepped. stepped.2 ≡ bits_at (is_signed_in process.now) bits (Some address)) }
 {
     dw_process::laws::the_module_of_the_address_unwinds();
     slot.hint = hints.hint(address);

@@ -1,9 +1,9 @@
-use Rattle.std.proofs.Common.{◌≡◌, List, map, sym, ap, subst, arith}
+use Rattle.std.proofs.Common.{◌∙◌, ◌≡◌, List, map, sym, ap, subst, arith}
 use Rattle.std.proofs.lemmas.List.{length-map}
-use Rattle.dw_frame.specs.Records.{Fde}
+use Rattle.dw_frame.specs.Records.{Cie, Fde}
 use Rattle.dw_frame.specs.Views.{cie_of, fde_of}
 use Rattle.dw_rows.specs.AddressIndex.{IsAddressIndex, IsIndexOf, fde_at}
-use Rattle.dw_rows.specs.Section.{FrameSection}
+use Rattle.dw_rows.specs.Section.{FrameSection, cie_at}
 use Rattle.dw_rows.specs.declared.index.IndexEntry.{IndexEntry}
 use Rattle.dw_frame.specs.declared.entry.FrameDescriptionEntry.{FrameDescriptionEntry}
 use Rattle.dw_rows.proofs.sections.Indexes.{entry-placed}
@@ -62,3 +62,8 @@ returns-clause-signed c =
     signed-done c.args.frame.now (map view index) c.loop-entry.entry-index c.loop-entry.ranges.items c.index-index.ensures.checked
     (indexed c.args.frame.now fdes index c.fdes-fdes.ensures.fdes c.index-index.ensures.index) (omega (arith, c.loop-entry-test.false))
     c.loop-entry.invariant
+
+pub push_signed_rows-requires-clause-first : goal.push_signed_rows-requires-clause-first
+push_signed_rows-requires-clause-first c =
+    c.is_signed_by-first.ensures (cie_of c.cie_of-cie.result)
+    (ap (λ (l : List Cie). cie_at l c.index-fdes-entry.result.cie_pointer) c.cies-cies.ensures.cies ∙ c.cie_of-cie.ensures.cie)
