@@ -18,6 +18,9 @@ const SWITCH: usize = 7;
 /// In how many instructions after a call rows are looked at that say what the call has removed from the stack.
 const FEW_AFTER_CALL: usize = 4;
 
+/// Code that jumps lead to is aligned at multiples of this, if it is aligned.
+const ALIGNMENT: u64 = 16;
+
 /// How many bytes that a call has removed are taken back by the subtraction after it, at most: four arguments.
 const MOST_TAKEN_BACK: i64 = 16;
 
@@ -65,19 +68,27 @@ pub fn is_exit_call(flow: &Flow<'_, '_>, state: &State) -> bool {
     matches!(state.get(register), Value::Number(number) if numbers.contains(&number))
 }
 
-/// Rule "row changes after the call": whether the row after a call, and after padding that follows it, says something else
-/// than the row of the call, and doesn't fit the state after the call. Then the call doesn't return, and other code
-/// follows it.
+/// Rule "row changes after the call": whether the row after a call says something else than the row of the call, and
+/// doesn't fit the state after the call. Then the call doesn't return, and other code follows it. Where that is aligned,
+/// its row begins after the padding.
 pub fn row_changes_after_call(flow: &Flow<'_, '_>, call: u32, state: &State) -> bool {
     let next = flow.code.next(call);
-    let (before, after) =
-        (flow.code.address(call), flow.code.address(is_only_padding(&flow.code, next).unwrap_or(next)));
+    let (before, after) = (flow.code.address(call), flow.code.address(aligned_code(flow, next).unwrap_or(next)));
     match (flow.row(before), flow.row(after)) {
         (Some(row), Some(next)) if row.begin != next.begin && !row.has_rules_of(next) => {
             !flow.disagreement(next, state, after).wrong.is_empty()
         }
         _ => false,
     }
+}
+
+/// Where code begins that is aligned after a call, if it is: padding leads up to it, and a row begins with it. Compilers
+/// align only what jumps lead to, while a `nop` elsewhere runs as soon as the call returns.
+fn aligned_code(flow: &Flow<'_, '_>, after_call: u32) -> Option<u32> {
+    let code = is_only_padding(&flow.code, after_call)?;
+    let address = flow.code.address(code);
+    let begins_row = flow.row(address).map_or(false, |row| row.begin == address);
+    Some(code).filter(|_| address % ALIGNMENT == 0 && begins_row)
 }
 
 /// Rule "arguments that the callee pops": how many bytes a call removes from the stack, by the rows after it: the first
@@ -101,7 +112,7 @@ pub fn arguments_popped_by_rows(flow: &Flow<'_, '_>, call: u32) -> Option<i64> {
         }
         match *flow.code.effect(at) {
             // The call doesn't return.
-            Effect::Padding => return Some(0),
+            Effect::Padding if aligned_code(flow, at).is_some() => return Some(0),
             Effect::Add { to, from, number } if to == machine.stack_pointer && from == to => {
                 let is_taken_back = offset(flow.code.next(at)) == Some(before) && number >= -MOST_TAKEN_BACK;
                 return Some(if is_likely(-number) && is_taken_back { -number } else { 0 });

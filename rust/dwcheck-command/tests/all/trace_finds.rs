@@ -294,7 +294,7 @@ const REFUTED: &str = ".text
     .cfi_adjust_cfa_offset 24
     mov %rbx, 8(%rsp)
     call keep
-    xor %ecx, %ecx
+    nop
     .cfi_offset rbx, -16
     xor %eax, %eax
     .cfi_restore rbx

@@ -280,6 +280,20 @@ fn arguments_that_are_perhaps_popped() {
     );
 }
 
+/// A `nop` after the call runs, so the row after it says what the callee has popped before.
+#[test]
+fn arguments_that_were_popped_before_a_nop() {
+    let text = "push $1
+        .cfi_adjust_cfa_offset 4
+        call *%eax
+        RIGHT .cfi_adjust_cfa_offset -4
+        nop
+        WRONG .cfi_adjust_cfa_offset -4
+        mov $2, %eax
+        ret";
+    I386.planted("popped-before-nop", "wrong row at a block", text);
+}
+
 /// An FDE that begins before the padding in front of the function, as in glibc's `_dl_runtime_resolve_shstk`.
 #[test]
 fn padding_before_a_function_that_is_not_called() {

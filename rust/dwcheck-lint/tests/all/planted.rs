@@ -45,6 +45,23 @@ fn pop_without_row() {
     X86_64.planted("pop", "pop without row", text);
 }
 
+/// A `nop` after a call runs, so the row after it counts.
+#[test]
+fn a_rule_that_begins_after_a_call_and_a_nop() {
+    let text = "sub $24, %rsp
+        .cfi_adjust_cfa_offset 24
+        mov %rbx, 8(%rsp)
+        call *%rdi
+        nop
+        WRONG .cfi_offset rbx, -16
+        xor %eax, %eax
+        WRONG .cfi_restore rbx
+        add $24, %rsp
+        .cfi_adjust_cfa_offset -24
+        ret";
+    X86_64.planted("nop", "register never saved", text);
+}
+
 /// An addition was moved up over a conditional jump, and its row stayed on both ways.
 #[test]
 fn moved_epilogue() {

@@ -62,6 +62,19 @@ fn a_row_that_changes_after_a_call() {
     X86_64.quiet("changes-unreached", unreached, "");
 }
 
+/// Row changes after the call: also where the code that follows it is aligned.
+#[test]
+fn a_row_that_changes_at_aligned_code_after_a_call() {
+    let body = "push %rax
+        .cfi_adjust_cfa_offset 8
+        call *%rsi
+        .p2align 4
+        .cfi_adjust_cfa_offset -8
+        mov %edi, %eax
+        ret";
+    X86_64.quiet("changes-aligned", body, "");
+}
+
 /// Padding: after a call that doesn't return.
 #[test]
 fn padding_after_a_call() {
