@@ -138,6 +138,11 @@ fn containers_of_libstdcxx_hold_what_gdb_shows() {
         assert!(json.contains(part), "{}: {}", part, json);
     }
 }
+    assert!(!json.contains(r#""more""#), "{}", json);
+    let cut = dwcheck_elf(&folder, "vars --json --elements 1 --core core").out;
+    for part in [r#""value":["1",{"more":2}]"#, r#""value":["false",{"more":69}]"#, r#""value":"30"},{"more":1}]"#] {
+        assert!(cut.contains(part), "{}: {}", part, cut);
+    }
 
 /// A vector with an end before its begin, a tree whose nodes are in a circle, and more.
 const BROKEN: &str = "
