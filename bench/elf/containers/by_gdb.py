@@ -28,7 +28,7 @@ DEPTH, ELEMENTS, MAPPING = 8, 200, 8 << 20
 SECONDS = 3
 STRUCTURES = (gdb.TYPE_CODE_STRUCT, gdb.TYPE_CODE_UNION)
 # What vars shows as the structures that they are.
-PLAIN = re.compile(r"(std::(\w+::)*weak_ptr<|alloc::(rc|sync)::Weak<|map\[|std::(\w+::)*(pair|tuple)<)")
+PLAIN = re.compile(r"(std::(\w+::)*weak_ptr<|alloc::(rc|sync)::Weak<|map\[|std::(\w+::)*pair<)")
 
 
 def value_of(value, depth):
@@ -110,7 +110,7 @@ def by_printer(value, printer, depth):
         return {"choice": int(re.search(r"index (\d+)", printer.to_string())[1]), "value": values[0]}
     if name == "EnumProvider":
         return {"choice": parts[0][0], "value": values[0]}
-    if name in ("StdTuplePrinter", "StdPairPrinter"):
+    if name == "StdPairPrinter":
         return "?"
     if hint == "map":
         return {"map": list(zip(values[::2], values[1::2]))}

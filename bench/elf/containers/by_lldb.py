@@ -9,7 +9,7 @@ import re
 import lldb
 
 DEPTH, ELEMENTS = 8, 200
-ROWS = ("vector", "set", "multiset", "unordered_set", "unordered_multiset", "list")
+ROWS = ("vector", "set", "multiset", "unordered_set", "unordered_multiset", "list", "deque", "tuple")
 MAPS = ("map", "multimap", "unordered_map", "unordered_multimap")
 BASIC = (lldb.eBasicTypeFloat, lldb.eBasicTypeDouble, lldb.eBasicTypeBool)
 

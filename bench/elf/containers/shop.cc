@@ -1,8 +1,11 @@
 // Sells things, for bench/elf/containers.py, which stops it anywhere in the namespace `example`.
+#include <deque>
+#include <list>
 #include <map>
 #include <memory>
 #include <optional>
 #include <string>
+#include <tuple>
 #include <unordered_map>
 #include <variant>
 #include <vector>
@@ -49,6 +52,23 @@ __attribute__((noinline)) std::unique_ptr<Item> make(int price) {
     return item;
 }
 
+__attribute__((noinline)) int queue(int price) {
+    std::deque<Item> waiting;
+    std::deque<short> numbers;
+    std::list<std::string> names;
+    std::list<int> none;
+    std::tuple<int, std::string, double> first(price, "first", 0.5);
+    for (int one = 0; one < 3 * price; one++) {
+        waiting.push_back(Item{one, std::string(one % 20, 'y'), std::nullopt});
+        numbers.push_front(one);
+        names.push_front(waiting.back().name);
+        if (one % 3 == 2) waiting.pop_front();
+        if (one % 4 == 3) numbers.pop_back();
+        std::get<0>(first) += one;
+    }
+    return waiting.size() + numbers.size() + names.size() + none.size() + std::get<0>(first);
+}
+
 __attribute__((noinline)) int run() {
     std::vector<std::shared_ptr<Item>> stock;
     std::map<std::string, std::unique_ptr<Item>> kept;
@@ -60,7 +80,7 @@ __attribute__((noinline)) int run() {
         stock.push_back(std::shared_ptr<Item>(std::move(item)));
         payments.emplace(price, pay(price));
         std::optional<Item> found = find(stock, price - 1);
-        total = total.value_or(0) + (found ? found->price : 0);
+        total = total.value_or(0) + (found ? found->price : 0) + queue(price);
     }
     return *total + static_cast<int>(kept.size() + payments.size());
 }

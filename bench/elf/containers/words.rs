@@ -1,6 +1,6 @@
 //! Counts words and sells things, for bench/elf/containers.py, which stops it anywhere in its own functions.
 
-use std::collections::{HashMap, HashSet};
+use std::collections::{BTreeMap, BTreeSet, HashMap, HashSet};
 use std::rc::Rc;
 use std::sync::Arc;
 
@@ -38,6 +38,17 @@ fn tally(words: &[String]) -> HashMap<String, i32> {
         seen.insert(word.len() as u64);
         places.entry(word.len() as u8).or_insert_with(Vec::new).push(place);
     }
+    let mut sorted: BTreeMap<String, usize> = BTreeMap::new();
+    let mut lengths: BTreeSet<u64> = BTreeSet::new();
+    for (place, word) in words.iter().enumerate() {
+        sorted.insert(word.clone(), place);
+        lengths.insert(word.len() as u64 * 7 % 5);
+    }
+    for number in 0..40 {
+        sorted.insert(format!("number {}", number), number);
+    }
+    sorted.remove("the");
+    counts.insert("sorted".to_string(), (sorted.len() + lengths.len()) as i32);
     let half: &[String] = &words[..words.len() / 2];
     let boxed: Box<[u16]> = half.iter().map(|word| word.len() as u16).collect();
     counts.insert("boxes".to_string(), boxed.len() as i32);

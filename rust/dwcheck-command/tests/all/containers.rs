@@ -1,5 +1,6 @@
-//! What containers of C++ and Rust hold. What is expected of those of C++ is what gdb's pretty-printers show, and of
-//! the others what the source says; bench/elf/containers.py compares all of them with debuggers at random instructions.
+//! What containers of C++, Rust and Go hold. What is expected of those of libstdc++ is what gdb's pretty-printers show, of
+//! maps of Go what the program prints, and of the others what the source says; bench/elf/containers.py compares all of them
+//! with debuggers at random instructions.
 
 use crate::common::run::dwcheck_elf;
 use crate::common::{has, may_trace, Folder};
@@ -137,12 +138,12 @@ fn containers_of_libstdcxx_hold_what_gdb_shows() {
     for part in [r#"{"key":{"address":"0x"#, r#","use_count":2,"weak_count":1}"#, r#""value":["1","2","3"]"#] {
         assert!(json.contains(part), "{}: {}", part, json);
     }
-}
     assert!(!json.contains(r#""more""#), "{}", json);
     let cut = dwcheck_elf(&folder, "vars --json --elements 1 --core core").out;
     for part in [r#""value":["1",{"more":2}]"#, r#""value":["false",{"more":69}]"#, r#""value":"30"},{"more":1}]"#] {
         assert!(cut.contains(part), "{}: {}", part, cut);
     }
+}
 
 /// A vector with an end before its begin, a tree whose nodes are in a circle, and more.
 const BROKEN: &str = "
@@ -189,7 +190,7 @@ fn what_no_container_can_hold_is_shown_as_a_structure() {
 }
 
 const RUST: &str = "
-use std::collections::{HashMap, HashSet, VecDeque};
+use std::collections::{BTreeMap, BTreeSet, HashMap, HashSet, VecDeque};
 use std::rc::Rc;
 use std::sync::Arc;
 #[allow(dead_code)]
@@ -208,7 +209,10 @@ fn work(n: i32) {
     let inner: Box<str> = \"boxed\".into();
     let shared = Rc::new(5);
     let (other, weak) = (shared.clone(), Rc::downgrade(&shared));
+    let again = weak.clone();
     let counted = Arc::new(String::from(\"counted\"));
+    let watching = Arc::downgrade(&counted);
+    let gone = Arc::downgrade(&Arc::new(7));
     let any: Rc<dyn std::fmt::Debug> = Rc::new(7);
     let mut ages: HashMap<u8, i32> = HashMap::new();
     ages.insert(7, 30);
@@ -218,6 +222,15 @@ fn work(n: i32) {
     circle.drain(..5);
     circle.extend([n, 8, 9, 10]);
     let empty_circle: VecDeque<u8> = VecDeque::new();
+    let mut few: BTreeMap<String, i32> = BTreeMap::new();
+    few.insert(String::from(\"two\"), 2);
+    few.insert(String::from(\"one\"), n);
+    let mut squares: BTreeMap<u8, u32> = BTreeMap::new();
+    (0..150u32).rev().for_each(|i| drop(squares.insert(i as u8, i * i)));
+    let no_tree: BTreeMap<u8, u8> = BTreeMap::new();
+    let mut sorted: BTreeSet<i64> = BTreeSet::new();
+    (0..30).for_each(|i| drop(sorted.insert(i * 7 % 30)));
+    sorted.retain(|i| i % 4 == 3);
     unsafe { std::arch::asm!(\"ud2\") }
 }
 fn main() { work(3) }
@@ -244,15 +257,182 @@ fn containers_of_rust_hold_what_the_source_says() {
         ("boxed", "@: {x = 3, y = 2.5}"),
         ("row", "{7, 8}"),
         ("inner", r#""boxed""#),
-        ("shared", "@: 5 (use count 2, weak count 1)"),
-        ("other", "@: 5 (use count 2, weak count 1)"),
-        ("counted", r#"@: "counted" (use count 1, weak count 0)"#),
+        ("shared", "@: 5 (use count 2, weak count 2)"),
+        ("other", "@: 5 (use count 2, weak count 2)"),
+        ("weak", "@: 5 (use count 2, weak count 2)"),
+        ("again", "@: 5 (use count 2, weak count 2)"),
+        ("counted", r#"@: "counted" (use count 1, weak count 1)"#),
+        ("watching", r#"@: "counted" (use count 1, weak count 1)"#),
+        ("gone", "(use count 0, weak count 1)"),
         ("ages", "{[7] = 30}"),
         ("keys", "{9}"),
         ("circle", "{5, 6, 3, 8, 9, 10}"),
         ("empty_circle", "{}"),
+        ("few", r#"{["one"] = 3, ["two"] = 2}"#),
+        ("no_tree", "{}"),
+        ("sorted", "{3, 7, 11, 15, 19, 23, 27}"),
     ];
+    let squares: Vec<String> = (0..150).map(|i| format!("[{}] = {}", i, i * i)).collect();
+    assert_eq!(value(&ours, "squares"), format!("{{{}}}", squares.join(", ")));
+    let cut = values(&folder, "--elements 70");
+    assert_eq!(value(&cut, "squares"), format!("{{{}, 80 more}}", squares[..70].join(", ")));
     expected.iter().for_each(|(name, shown)| assert_eq!(value(&ours, name), *shown, "{}", name));
     // Where the value is isn't said by the type.
     assert!(value(&ours, "any").starts_with("{ptr = "), "{:#?}", ours);
+}
+
+const GO: &str = "
+package main
+
+import \"fmt\"
+
+type point struct{ x, y int }
+type large struct{ numbers [40]int64 }
+type places map[string]point
+
+//go:noinline
+func work(n int) {
+\tages := map[string]int{\"bob\": 41, \"ann\": 30}
+\twhere := places{\"here\": {1, n}}
+\tvar none map[int]int
+\tempty := map[int]int{}
+\tmany := map[int]int{}
+\tfor i := 0; i < 1000; i++ {
+\t\tmany[i] = i * i
+\t}
+\tfew := map[uint16]bool{}
+\tfor i := 0; i < 14; i++ {
+\t\tfew[uint16(i)] = i%2 == 0
+\t}
+\tfor i := 0; i < 12; i++ {
+\t\tdelete(few, uint16(i))
+\t}
+\tlarger := map[large]large{{[40]int64{7}}: {[40]int64{9}}}
+\tset := map[string]struct{}{\"a\": {}, \"b\": {}}
+\tfmt.Println(\"ages\", ages)
+\tfmt.Println(\"where\", where)
+\tfmt.Println(\"none\", none)
+\tfmt.Println(\"empty\", empty)
+\tfmt.Println(\"few\", few)
+\tfmt.Println(\"set\", set)
+\tgrowing := map[int]int{}
+\tfor i := 0; i < n*13; i++ {
+\t\tgrowing[i] = i
+\t\tif len(growing) == 14 {
+\t\t\tbreak
+\t\t}
+\t}
+\tfmt.Println(\"growing\", growing)
+\tvar pointer *int
+\t*pointer = len(many) + len(larger)
+}
+func main() { work(3) }
+";
+
+/// The elements of a map that Go has printed in one line, such as `map[ann:30 bob:41]`, in the order of the keys.
+fn printed_by_go(lines: &str, name: &str) -> Vec<(String, String)> {
+    let line = lines.lines().find_map(|line| line.strip_prefix(&format!("{} map[", name))).unwrap();
+    let elements = line.strip_suffix(']').unwrap().split_terminator(' ');
+    elements.map(|element| element.split_once(':').unwrap()).map(|(key, value)| (key.into(), value.into())).collect()
+}
+
+/// The elements of a map as `vars` shows them, in the order of the keys as texts.
+fn shown_of_map(shown: &str) -> Vec<(String, String)> {
+    let inside = shown.strip_prefix('{').and_then(|shown| shown.strip_suffix('}')).unwrap();
+    let elements = inside.split_terminator(", [").map(|element| element.trim_start_matches('['));
+    let pair = |element: &str| {
+        let (key, value) = element.split_once("] = ").unwrap();
+        (key.trim_matches('"').to_string(), value.to_string())
+    };
+    let mut all: Vec<_> = elements.map(pair).collect();
+    all.sort();
+    all
+}
+
+/// `growing` has just got its fourteenth element, so that its elements are in old and in new places. Keys and values of
+/// `larger` are elsewhere, since they are large.
+#[test]
+fn maps_of_go_hold_what_the_program_prints() {
+    let folder = Folder::new("containers-go");
+    if !may_trace() || !has("go") {
+        return;
+    }
+    folder.write("a.go", GO);
+    folder.run("GOCACHE=$PWD/cache GO111MODULE=off go build -gcflags='all=-N -l' -o program a.go");
+    let printed = folder.run("./program 2> /dev/null || true");
+    folder.crash("./program");
+    let ours = values(&folder, "--depth 3");
+    for name in ["ages", "none", "empty", "few", "set", "growing"] {
+        let mut theirs = printed_by_go(&printed, name);
+        theirs.sort();
+        assert_eq!(shown_of_map(value(&ours, name)), theirs, "{}", name);
+    }
+    assert!(printed.contains("where map[here:{1 3}]"), "{}", printed);
+    assert_eq!(value(&ours, "where"), r#"{["here"] = {x = 1, y = 3}}"#);
+    let numbers = |first: u64| format!("{{numbers = {{{}{}}}}}", first, ", 0".repeat(39));
+    assert_eq!(value(&ours, "larger"), format!("{{[{}] = {}}}", numbers(7), numbers(9)));
+    let all = values(&folder, "--depth 3 --elements 1000");
+    let many = shown_of_map(value(&all, "many"));
+    let is_square =
+        |(key, value): &(String, String)| key.parse::<u64>().unwrap().pow(2) == value.parse::<u64>().unwrap();
+    let mut keys: Vec<_> = many.iter().map(|(key, _)| key).collect();
+    keys.dedup();
+    assert!(keys.len() == 1000 && many.iter().all(is_square), "{:?}", many);
+    assert!(value(&ours, "many").ends_with(", 800 more}"), "{}", value(&ours, "many"));
+}
+
+const LIBCXX: &str = "
+#include <deque>
+#include <list>
+#include <string>
+#include <tuple>
+struct point { int x; double y; };
+struct large { char bytes[300]; int n; };
+__attribute__((noinline)) int work(int n) {
+    std::list<int> chain = {7, 8, n}, unchained;
+    std::list<std::string> texts = {\"one\", \"two\"};
+    std::deque<short> blocks(3000, 5);
+    for (int i = 0; i < 2999; i++) blocks.pop_front();
+    blocks.push_back(6);
+    std::deque<point> ends;
+    ends.push_front({1, 0.5});
+    ends.push_back({2, 1.5});
+    std::deque<large> pages(40);
+    pages[39].n = n;
+    std::deque<int> none;
+    std::tuple<int, std::string, double> three(n, \"two\", 3.5);
+    std::tuple<std::tuple<int, int>, char> nested({1, 2}, 'c');
+    __builtin_trap();
+    return 0;
+}
+int main(int argc, char **argv) { return work(argc + 2); }
+";
+
+/// LLDB 14 shows the same; bench/elf/containers.py compares others with it. libc++ is rarely installed.
+#[test]
+fn containers_of_libcxx_hold_what_the_source_says() {
+    let folder = Folder::new("containers-libcxx");
+    folder.write("a.cc", LIBCXX);
+    let is_built =
+        folder.run("clang++ -stdlib=libc++ -std=c++17 -g a.cc -o program > /dev/null 2>&1 && echo built || true");
+    if !may_trace() || is_built.is_empty() {
+        return;
+    }
+    folder.crash("./program");
+    let ours = values(&folder, "--depth 2");
+    for (name, shown) in [
+        ("chain", "{7, 8, 3}"),
+        ("unchained", "{}"),
+        ("texts", r#"{"one", "two"}"#),
+        ("blocks", "{5, 6}"),
+        ("ends", "{{x = 1, y = 0.5}, {x = 2, y = 1.5}}"),
+        ("none", "{}"),
+        ("three", r#"{3, "two", 3.5}"#),
+        ("nested", "{{1, 2}, 'c'}"),
+    ] {
+        assert_eq!(value(&ours, name), shown, "{}", name);
+    }
+    assert!(value(&ours, "pages").ends_with("n = 3}}"), "{}", value(&ours, "pages"));
+    let cut = values(&folder, "--elements 1");
+    assert_eq!((value(&cut, "chain"), value(&cut, "ends")), ("{7, 2 more}", "{{..}, 1 more}"));
 }

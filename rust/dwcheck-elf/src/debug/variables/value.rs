@@ -144,7 +144,10 @@ impl<'v, 'a> Locator<'v, 'a> {
                 }
             }
             gimli::DW_TAG_pointer_type if is_box(&kind) => self.reference_value(&kind, part, shape, left),
-            gimli::DW_TAG_pointer_type => self.pointer_value(&kind, part, shape, left),
+            gimli::DW_TAG_pointer_type => match self.map_of_go(of, part, shape, left) {
+                Some(contents) => Ok(contents),
+                None => self.pointer_value(&kind, part, shape, left),
+            },
             gimli::DW_TAG_ptr_to_member_type => self.pointer_to_member(&kind, part),
             tag if is_reference_tag(tag) => self.reference_value(&kind, part, shape, left),
             _ => Err(Missing::Unsupported("a type of this kind")),

@@ -5,21 +5,24 @@
 //! shown as it is.
 
 mod associations;
+mod buckets;
 mod cxx;
 mod deques;
 mod fields;
+mod go;
 mod libcxx;
 mod libstdcxx;
 mod owners;
-mod rust_and_go;
+mod rust;
 mod sequences;
+mod wide_trees;
 
 use super::{Part, Shape, Value};
 use crate::debug::debug_info::Die;
 use crate::debug::variables::location::Locator;
 use crate::debug::variables::scopes::{die_id, DieId};
 use associations::Association;
-use deques::{Blocks, Circle};
+use deques::{Blocks, Circle, Pages};
 use fields::{base_of_name, Field};
 use owners::{Choice, Optional, Owner};
 use sequences::{Bits, Row, ShortText, Text};
@@ -49,6 +52,8 @@ enum Layout<'v, 'a> {
     Association(Association<'v, 'a>),
     /// Elements in blocks elsewhere.
     Blocks(Blocks<'v, 'a>),
+    /// Elements in blocks of a known number of elements elsewhere.
+    Pages(Pages<'v, 'a>),
     /// Elements next to each other, elsewhere, of which the first one comes after the last place.
     Circle(Circle<'v, 'a>),
     /// Members, by their places.
@@ -75,7 +80,8 @@ impl<'v, 'a> Layouts<'v, 'a> {
 fn layout_of<'v, 'a>(kind: &Die<'v, 'a>) -> Option<Layout<'v, 'a>> {
     let name = kind.name()?;
     let whole = Field::whole(kind);
-    cxx::layout(base_of_name(&name), &whole).or_else(|| rust_and_go::layout(&name, &whole))
+    let of_cxx = cxx::layout(base_of_name(&name), &whole);
+    of_cxx.or_else(|| rust::layout(&name, &whole)).or_else(|| go::layout(&name, &whole))
 }
 
 impl<'v, 'a> Locator<'v, 'a> {
@@ -99,6 +105,7 @@ impl<'v, 'a> Locator<'v, 'a> {
             Layout::Choice(choice) => self.choice(choice, part, inner, left),
             Layout::Association(association) => self.association(association, part, inner, left),
             Layout::Blocks(blocks) => self.blocks(blocks, part, inner, left),
+            Layout::Pages(pages) => self.pages(pages, part, inner, left),
             Layout::Circle(circle) => self.circle(circle, part, inner, left),
             Layout::Fields(fields) => {
                 let value = |field: &Field<'v, 'a>| self.value_of_part(&field.kind, field.part(part), inner, left);

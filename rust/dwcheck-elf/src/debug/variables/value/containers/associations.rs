@@ -1,7 +1,9 @@
 //! Reads containers that find their elements by keys: trees and hash tables.
 
+use super::buckets::Buckets;
 use super::cxx::Entries;
 use super::fields::Field;
+use super::wide_trees::WideTree;
 use crate::debug::variables::location::Locator;
 use crate::debug::variables::value::{Part, Shape, Value};
 use crate::debug::variables::value_location::ValueLocation;
@@ -33,6 +35,10 @@ pub(super) enum Walk<'v, 'a> {
     Ring { first: Field<'v, 'a>, next: Field<'v, 'a>, header: Field<'v, 'a> },
     /// Before bytes each of which says whether an element of a size is there. The mask is the number of the last one.
     Places { control: Field<'v, 'a>, mask: Field<'v, 'a>, size: u64 },
+    /// In nodes of a tree that have several each, in the order of the keys.
+    WideTree(WideTree<'v, 'a>),
+    /// In buckets of a hash table that have several each.
+    Buckets(Buckets<'v, 'a>),
 }
 
 /// What is in a node or a place.
@@ -51,8 +57,21 @@ impl<'v, 'a> Entry<'v, 'a> {
     }
 }
 
-/// The addresses of nodes or elements, and whether there are no others.
-type Found = (Vec<u64>, bool);
+/// Where an element is: what its key is in, and what its value is in, by their addresses. Mostly both are one node.
+#[derive(Clone, Copy, Debug)]
+pub(super) struct Place {
+    pub key: u64,
+    pub value: u64,
+}
+
+impl Place {
+    fn of_node(address: u64) -> Self {
+        Place { key: address, value: address }
+    }
+}
+
+/// Where elements are, and whether there are no others.
+pub(super) type Found = (Vec<Place>, bool);
 
 impl<'v, 'a> Locator<'v, 'a> {
     pub(super) fn association(
@@ -64,7 +83,7 @@ impl<'v, 'a> Locator<'v, 'a> {
     ) -> Option<Value> {
         let count = self.word(&association.count, part)?;
         let shown = self.shown(count, inner, *left);
-        let (nodes, are_all) = match &association.walk {
+        let (places, are_all) = match &association.walk {
             Walk::Tree { root, left, right } => self.nodes_of_tree(self.word(root, part)?, [left, right], shown)?,
             Walk::Chain { first, next } => self.nodes_of_chain(self.word(first, part)?, next, (0, shown))?,
             Walk::Ring { first, next, header } => {
@@ -78,17 +97,19 @@ impl<'v, 'a> Locator<'v, 'a> {
                 let (control, mask) = (self.word(control, part)?, self.word(mask, part)?);
                 self.elements_in_places(control, mask, *size, shown)?
             }
+            Walk::WideTree(tree) => self.elements_of_wide_tree(tree, part, (count, shown))?,
+            Walk::Buckets(buckets) => self.elements_in_buckets(buckets, part, shown)?,
         };
-        if nodes.len() != shown || are_all != (shown as u64 == count) {
+        if places.len() != shown || are_all != (shown as u64 == count) {
             return None;
         }
-        Some(self.entries(&association.entry, &nodes, count - shown as u64, inner, left))
+        Some(self.entries(&association.entry, &places, count - shown as u64, inner, left))
     }
 
-    fn entries(&self, entry: &Entry<'v, 'a>, nodes: &[u64], more: u64, inner: Shape, left: &mut usize) -> Value {
-        let mut value_of = |field: &Field<'v, 'a>, node: u64| {
+    fn entries(&self, entry: &Entry<'v, 'a>, places: &[Place], more: u64, inner: Shape, left: &mut usize) -> Value {
+        let mut value_of = |field: &Field<'v, 'a>, address: u64| {
             *left = left.saturating_sub(1);
-            let place = ValueLocation::Memory(node);
+            let place = ValueLocation::Memory(address);
             self.value_of_part(
                 &field.kind,
                 field.part(Part { place: &place, size: usize::MAX, offset: 0 }),
@@ -98,15 +119,15 @@ impl<'v, 'a> Locator<'v, 'a> {
         };
         match &entry.value {
             Some(value) => {
-                let pair = |node: &u64| (value_of(&entry.key, *node), value_of(value, *node));
-                Value::Entries(nodes.iter().map(pair).collect(), more)
+                let pair = |place: &Place| (value_of(&entry.key, place.key), value_of(value, place.value));
+                Value::Entries(places.iter().map(pair).collect(), more)
             }
-            None => Value::Elements(nodes.iter().map(|node| value_of(&entry.key, *node)).collect(), more),
+            None => Value::Elements(places.iter().map(|place| value_of(&entry.key, place.key)).collect(), more),
         }
     }
 
-    /// A pointer that a node has.
-    fn pointer_of_node(&self, field: &Field<'v, 'a>, node: u64) -> Option<u64> {
+    /// A number or a pointer that a node has.
+    pub(super) fn word_of_node(&self, field: &Field<'v, 'a>, node: u64) -> Option<u64> {
         let place = ValueLocation::Memory(node);
         self.word(field, Part { place: &place, size: usize::MAX, offset: 0 })
     }
@@ -121,15 +142,15 @@ impl<'v, 'a> Locator<'v, 'a> {
                     return None;
                 }
                 above.push(next);
-                next = self.pointer_of_node(left, next)?;
+                next = self.word_of_node(left, next)?;
                 continue;
             }
             let node = match above.pop() {
                 Some(node) if found.len() < most => node,
                 above => return Some((found, above.is_none())),
             };
-            found.push(node);
-            next = self.pointer_of_node(right, node)?;
+            found.push(Place::of_node(node));
+            next = self.word_of_node(right, node)?;
         }
     }
 
@@ -138,8 +159,8 @@ impl<'v, 'a> Locator<'v, 'a> {
         let mut found = Vec::new();
         let mut node = first;
         while node != end && found.len() < most {
-            found.push(node);
-            node = self.pointer_of_node(next, node)?;
+            found.push(Place::of_node(node));
+            node = self.word_of_node(next, node)?;
         }
         Some((found, node == end))
     }
@@ -154,7 +175,7 @@ impl<'v, 'a> Locator<'v, 'a> {
                 if found.len() == most {
                     return Some((found, false));
                 }
-                found.push(control.checked_sub((place + 1).checked_mul(size)?)?);
+                found.push(Place::of_node(control.checked_sub((place + 1).checked_mul(size)?)?));
             }
         }
         Some((found, true))

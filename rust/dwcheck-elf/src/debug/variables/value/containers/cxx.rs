@@ -28,9 +28,9 @@ pub(super) fn layout<'v, 'a>(name: &str, whole: &Field<'v, 'a>) -> Option<Layout
         "unique_ptr" => both(libstdcxx::unique_ptr(whole), &|| libcxx::unique_ptr(whole)),
         "shared_ptr" => both(libstdcxx::shared_ptr(whole), &|| libcxx::shared_ptr(whole)),
         "weak_ptr" => both(libstdcxx::shared_ptr(whole), &|| libcxx::shared_ptr(whole)),
-        "tuple" => libstdcxx::tuple(whole),
-        "list" => libstdcxx::list(whole),
-        "deque" => libstdcxx::deque(whole),
+        "tuple" => both(libstdcxx::tuple(whole), &|| libcxx::tuple(whole)),
+        "list" => both(libstdcxx::list(whole), &|| libcxx::list(whole)),
+        "deque" => both(libstdcxx::deque(whole), &|| libcxx::deque(whole)),
         "map" | "multimap" => both(libstdcxx::tree(whole, Pairs), &|| libcxx::tree(whole, Pairs)),
         "set" | "multiset" => both(libstdcxx::tree(whole, Keys), &|| libcxx::tree(whole, Keys)),
         "unordered_map" | "unordered_multimap" => {

@@ -25,6 +25,19 @@ pub(super) struct InBlock<'v, 'a> {
     pub block: Field<'v, 'a>,
 }
 
+/// Elements in blocks of a known number of elements, whose addresses are next to each other.
+pub(super) struct Pages<'v, 'a> {
+    /// Where the address of the first block is, and the end of these addresses.
+    pub begin: Field<'v, 'a>,
+    pub end: Field<'v, 'a>,
+    /// How many places of the first blocks have no element.
+    pub skipped: Field<'v, 'a>,
+    pub count: Field<'v, 'a>,
+    /// How many elements a block has.
+    pub in_block: u64,
+    pub element: Die<'v, 'a>,
+}
+
 /// Elements next to each other, of which the first one comes after the last place.
 pub(super) struct Circle<'v, 'a> {
     /// The address of the first place.
@@ -78,12 +91,28 @@ impl<'v, 'a> Locator<'v, 'a> {
         let place = |index: u64| {
             let wanted = begin.block + (skipped + index) / in_block * pointer;
             if block.0 != wanted {
-                let bytes = self.machine.memory(wanted, pointer as usize).ok()?;
-                block = (wanted, self.machine.target.number(&bytes));
+                block = (wanted, self.pointer_at(wanted)?);
             }
             block.1.checked_add((skipped + index) % in_block * size)
         };
         self.elements_at(&blocks.element, (size, count), place, inner, left)
+    }
+
+    pub(super) fn pages(&self, pages: &Pages<'v, 'a>, part: Part<'_>, inner: Shape, left: &mut usize) -> Option<Value> {
+        let size = type_size(&pages.element).filter(|size| *size > 0)?;
+        let word = |field| self.word(field, part);
+        let (begin, skipped, count) = (word(&pages.begin)?, word(&pages.skipped)?, word(&pages.count)?);
+        let (pointer, in_block) = (u64::from(self.machine.target.address_size.bytes()), pages.in_block);
+        let distance = word(&pages.end)?.checked_sub(begin)?;
+        let room = (distance / pointer).checked_mul(in_block)?;
+        if distance % pointer != 0 || skipped.checked_add(count)? > room {
+            return None;
+        }
+        let place = |index: u64| {
+            let block = self.pointer_at(begin + (skipped + index) / in_block * pointer)?;
+            block.checked_add(((skipped + index) % in_block).checked_mul(size)?)
+        };
+        self.elements_at(&pages.element, (size, count), place, inner, left)
     }
 
     fn spot(&self, place: &InBlock<'v, 'a>, part: Part<'_>) -> Option<Spot> {

@@ -9,6 +9,9 @@ use gimli::{DwAt, DwTag};
 /// How many structures are searched for a member. In a hostile file, a structure can have itself as a base.
 const MAX_SEARCHED: usize = 64;
 
+/// The names of the numbers for which bases of pairs and tuples are made.
+const INDEXES: [&str; 2] = ["_Idx", "_Ip"];
+
 /// A member of a type, which may be deep inside of it.
 #[derive(Clone)]
 pub(super) struct Field<'v, 'a> {
@@ -38,10 +41,25 @@ impl<'v, 'a> Field<'v, 'a> {
 
     /// The member with a name of the base that is made for an index, as tuples and pairs have bases.
     pub fn member_of_base(&self, index: u64, name: &str) -> Option<Self> {
-        let is_wanted = |class: &Die<'v, 'a>, member: &Die<'v, 'a>| {
-            member.name().as_deref() == Some(name) && template_number(class, "_Idx") == Some(index)
-        };
+        let is_made_for = |class: &Die<'v, 'a>| INDEXES.iter().any(|name| template_number(class, name) == Some(index));
+        let is_wanted =
+            |class: &Die<'v, 'a>, member: &Die<'v, 'a>| member.name().as_deref() == Some(name) && is_made_for(class);
         self.search(&is_wanted, &mut MAX_SEARCHED.clone())
+    }
+
+    /// What is in an `Option` of Rust, if anything is.
+    pub fn some(&self) -> Option<Self> {
+        let kind = unqualified_type(&self.kind)?;
+        let inner = |die: &Die<'v, 'a>, tag: DwTag| {
+            let mut children = die.children();
+            children.retain(|child| child.tag() == Some(tag));
+            children
+        };
+        let parts = inner(&kind, gimli::DW_TAG_variant_part);
+        let variants = parts.iter().flat_map(|part| inner(part, gimli::DW_TAG_variant));
+        let mut members = variants.flat_map(|variant| inner(&variant, gimli::DW_TAG_member));
+        let some = members.find(|member| member.name().as_deref() == Some("Some"))?;
+        self.at(&some)?.member("__0")
     }
 
     /// A member of a member, and so on.
@@ -144,8 +162,14 @@ pub(super) fn template_type<'v, 'a>(class: &Die<'v, 'a>, name: &str) -> Option<D
     type_of(&child(class, gimli::DW_TAG_template_type_parameter, name)?)
 }
 
+/// What the elements of the array in a member are.
+pub(super) fn target_of_array<'v, 'a>(array: &Field<'v, 'a>) -> Option<Die<'v, 'a>> {
+    let kind = unqualified_type(&array.kind).filter(|kind| kind.tag() == Some(gimli::DW_TAG_array_type))?;
+    type_of(&kind)
+}
+
 /// The number for which a template is made.
-fn template_number(class: &Die<'_, '_>, name: &str) -> Option<u64> {
+pub(super) fn template_number(class: &Die<'_, '_>, name: &str) -> Option<u64> {
     number_attribute(&child(class, gimli::DW_TAG_template_value_parameter, name)?, gimli::DW_AT_const_value)
 }
 
@@ -157,6 +181,12 @@ pub(super) fn base_with_name<'v, 'a>(class: &Die<'v, 'a>, name: &str) -> Option<
         let found = base.name();
         found.map_or(false, |found| base_of_name(&found) == name)
     })
+}
+
+/// How many bases a class has.
+pub(super) fn count_of_bases(class: &Die<'_, '_>) -> usize {
+    let children = unqualified_type(class).map_or_else(Vec::new, |class| class.children());
+    children.iter().filter(|one| one.tag() == Some(gimli::DW_TAG_inheritance)).count()
 }
 
 /// A constant that is a member of a class.

@@ -2,7 +2,8 @@
 
 use super::associations::{Association, Entry, Walk};
 use super::cxx::Entries;
-use super::fields::{constant_of_class, named_type, target_of, template_type, Field};
+use super::deques::Pages;
+use super::fields::{constant_of_class, count_of_bases, named_type, target_of, template_number, template_type, Field};
 use super::owners::{Choice, Counts, Optional, Owner, Target, MAX_CHOICES};
 use super::sequences::{Bits, Flag, Length, Room, Row, ShortText, Text};
 use super::Layout;
@@ -91,6 +92,35 @@ pub(super) fn shared_ptr<'v, 'a>(whole: &Field<'v, 'a>) -> Option<Layout<'v, 'a>
     let counts = Counts { control, uses, weak, uses_from: -1, weak_from: 0 };
     let target = Target::pointer(pointer, template_type(&whole.kind, "_Tp"));
     Some(Layout::Owner(Owner { target, counts: Some(counts) }))
+}
+
+/// `std::tuple`: each element is in a base that is made for its index.
+pub(super) fn tuple<'v, 'a>(whole: &Field<'v, 'a>) -> Option<Layout<'v, 'a>> {
+    let all = whole.member("__base_")?;
+    let count = Some(count_of_bases(&all.kind)).filter(|count| (1..=MAX_CHOICES).contains(count))?;
+    let elements = (0..count as u64).map(|index| all.member_of_base(index, "__value_"));
+    elements.collect::<Option<_>>().map(Layout::Fields)
+}
+
+/// `std::list`: a ring of nodes, which the list itself closes.
+pub(super) fn list<'v, 'a>(whole: &Field<'v, 'a>) -> Option<Layout<'v, 'a>> {
+    let header = whole.member("__end_")?;
+    let count = first_of_pair(&whole.member("__size_alloc_")?)?;
+    let node = Field::whole(&target_of(&named_type(&whole.kind, "__node_pointer")?)?);
+    let walk = Walk::Ring { first: header.member("__next_")?, next: node.member("__next_")?, header };
+    let entry = Entry { key: node.member("__value_")?, value: None };
+    Some(Layout::Association(Association { count, walk, entry }))
+}
+
+/// `std::deque`. How many elements a block has is a number for which its iterators are made.
+pub(super) fn deque<'v, 'a>(whole: &Field<'v, 'a>) -> Option<Layout<'v, 'a>> {
+    let map = whole.member("__map_")?;
+    let pointer = |name: &str| map.member(name).filter(Field::is_pointer);
+    let (begin, end) = (pointer("__begin_")?, pointer("__end_")?);
+    let element = target_of(&begin.target()?)?;
+    let in_block = template_number(&named_type(&whole.kind, "iterator")?, "_BS").filter(|count| *count > 0)?;
+    let count = first_of_pair(&whole.member("__size_")?)?;
+    Some(Layout::Pages(Pages { begin, end, skipped: whole.member("__start_")?, count, in_block, element }))
 }
 
 /// `std::map`, `std::set`, and those that may have equal keys.

@@ -1,10 +1,11 @@
-//! How Rust's standard library and Go keep what their containers hold.
+//! How Rust's standard library keeps what its containers hold.
 
 use super::associations::{Association, Entry, Walk};
 use super::deques::{Circle, Extent};
 use super::fields::{template_type, Field};
 use super::owners::{Counts, Owner, Target};
 use super::sequences::{Length, Room, Row, Text};
+use super::wide_trees::{Slots, WideTree};
 use super::{base_of_name, Layout};
 use crate::debug::variables::types::unqualified_type;
 use crate::debug::variables::value::characters::Characters;
@@ -21,10 +22,11 @@ pub(super) fn layout<'v, 'a>(name: &str, whole: &Field<'v, 'a>) -> Option<Layout
         "String" => string(whole),
         "Vec" => vector(whole).map(Layout::Row),
         "VecDeque" => vector_deque(whole),
-        "Rc" | "Arc" => shared(whole),
+        "Rc" | "Arc" | "Weak" => shared(whole),
         "HashMap" => hash_map(whole, Field::member(whole, "base").as_ref().unwrap_or(whole)),
         "HashSet" => hash_set(whole),
-        _ if name.starts_with("[]") => go_slice(whole),
+        "BTreeMap" => tree(whole).map(Layout::Association),
+        "BTreeSet" => tree_set(whole),
         _ if name.starts_with("alloc::boxed::Box<str") => boxed_text(whole),
         _ if SLICES.iter().any(|begin| name.starts_with(begin)) => slice(whole).map(Layout::Row),
         _ => None,
@@ -96,15 +98,8 @@ fn slice<'v, 'a>(whole: &Field<'v, 'a>) -> Option<Row<'v, 'a>> {
     Some(Row { first, room: Length::Count(length.clone()), length: Length::Count(length), element })
 }
 
-/// A slice of Go.
-fn go_slice<'v, 'a>(whole: &Field<'v, 'a>) -> Option<Layout<'v, 'a>> {
-    let first = whole.member("array").filter(Field::is_pointer)?;
-    let (length, room) = (Length::Count(whole.member("len")?), Length::Count(whole.member("cap")?));
-    let element = first.target()?;
-    Some(Layout::Row(Row { first, length, room, element }))
-}
-
-/// `Rc` and `Arc`: the counts are beside the value. Of one whose size only the process knows, the pointer is a structure.
+/// `Rc` and `Arc`, and the `Weak` of both: the counts are beside the value. Of one whose size only the process knows, the
+/// pointer is a structure.
 fn shared<'v, 'a>(whole: &Field<'v, 'a>) -> Option<Layout<'v, 'a>> {
     let control = whole.path(&["ptr", "pointer"]).filter(Field::is_pointer)?;
     let block = Field::whole(&control.target()?);
@@ -140,4 +135,34 @@ fn hash_table<'v, 'a>(table: &Field<'v, 'a>, size: u64, entry: Entry<'v, 'a>) ->
     let control = unwrapped(&inner.member("ctrl")?, &["pointer"]).filter(Field::is_pointer)?;
     let walk = Walk::Places { control, mask: inner.member("bucket_mask")?, size };
     Some(Layout::Association(Association { count: inner.member("items")?, walk, entry }))
+}
+
+/// `BTreeMap`. A node with others below it begins with what a leaf has, where a pointer to the node above it says its
+/// type.
+fn tree<'v, 'a>(whole: &Field<'v, 'a>) -> Option<Association<'v, 'a>> {
+    let root = whole.member("root")?.some()?;
+    let pointer = unwrapped(&root.member("node")?, &["pointer"]).filter(Field::is_pointer)?;
+    let leaf = Field::whole(&pointer.target()?);
+    let above = unwrapped(&leaf.member("parent")?.some()?, &["pointer"]).filter(Field::is_pointer)?;
+    let node = Field::whole(&above.target()?);
+    let (key, value) = (template_type(&leaf.kind, "K")?, template_type(&leaf.kind, "V")?);
+    let (key, value) = (Field::whole(&key), Field::whole(&value));
+    let keys = Slots::of(leaf.member("keys")?, key.size()?)?;
+    let values = Slots::of(leaf.member("vals")?, value.size()?)?;
+    let below = Slots::of(node.member("edges")?, pointer.size()?)?;
+    let begins_as_leaf = node.member("data")?.after(0) == 0;
+    if !begins_as_leaf || values.count != keys.count || below.count.checked_sub(1) != Some(keys.count) {
+        return None;
+    }
+    let tree =
+        WideTree { root: pointer, height: root.member("height")?, count: leaf.member("len")?, keys, values, below };
+    let entry = Entry { key, value: Some(value) };
+    Some(Association { count: whole.member("length")?, walk: Walk::WideTree(tree), entry })
+}
+
+/// `BTreeSet`, a map whose values are empty.
+fn tree_set<'v, 'a>(whole: &Field<'v, 'a>) -> Option<Layout<'v, 'a>> {
+    let map = tree(&whole.member("map")?)?;
+    let entry = Entry { value: None, ..map.entry };
+    Some(Layout::Association(Association { entry, ..map }))
 }
