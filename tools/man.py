@@ -24,7 +24,7 @@ from man_sources import TOP, commands_in, list_commands, list_header, list_optio
 SECTIONS = {"1": "User commands", "3": "Library functions"}
 # Options that clap adds, and those of other programs that the pages name.
 OTHER_OPTIONS = {"--help", "--version", "--call-graph", "--debugger", "--threads", "--dump-section", "--remove-section",
-                 "--perf-prof", "--perf-basic-prof", "--cflags", "--libs"}
+                 "--perf-prof", "--perf-basic-prof", "--perf-prof-unwinding-info", "--cflags", "--libs"}
 
 
 # ---- the page in Markdown ----

@@ -1,4 +1,5 @@
-//! The names of code that a compiler made at run time: by the file `jit-PID.dump` that the process wrote.
+//! Code that a compiler made at run time, its names and its unwind tables: by the file `jit-PID.dump` that the process
+//! wrote.
 //!
 //! Linux has its format in tools/perf/Documentation/jitdump-specification.txt. A process maps the file, so that the
 //! recording has its path.
@@ -12,22 +13,27 @@ use std::path::Path;
 /// The first number of a file, by which its byte order is known.
 const MAGIC: u32 = 0x4A69_5444;
 
-/// The length of the header, as far as it is read: the magic number, the version, and the header's length.
-const HEADER: usize = 12;
+/// The length of the header, as far as it is read: the magic number, the version, the header's length, the machine.
+const HEADER: usize = 16;
 
 /// The length of what each record begins with: its kind, its length, and a time.
 const RECORD_HEAD: usize = 16;
 
-/// What a record of each kind has after that, before names and code.
+/// What a record of each kind has after that, before names, code and tables.
 const LOAD_BODY: usize = 40;
 const MOVE_BODY: usize = 48;
+const UNWINDING_BODY: usize = 24;
 
 /// The kinds of records that are read.
 const LOAD: u64 = 0;
 const MOVE: u64 = 1;
+const UNWINDING: u64 = 4;
 
 /// The longest name that is read, in bytes.
 const LONGEST: u64 = 1 << 16;
+
+/// The longest unwind table that is read, in bytes.
+const LONGEST_TABLE: u64 = 1 << 24;
 
 /// Functions, each with its first address, the number of its bytes, and its name, in the order in which the
 /// compiler made them.
@@ -42,29 +48,21 @@ pub(super) fn is_jitdump_path(path: &[u8]) -> bool {
 
 /// The functions that a file has, as far as it can be read, of at most `most` bytes of names.
 pub(super) fn read_jitdump(path: &Path, most: usize) -> Functions {
-    let is_file = path.metadata().map_or(false, |file| file.is_file());
-    match File::open(path) {
-        Ok(file) if is_file => read_jitdump_records(BufReader::new(file), most),
-        _ => Functions::new(),
-    }
+    Dump::open(path).map_or_else(Functions::new, |dump| functions_of(dump, most))
 }
 
-fn read_jitdump_records<R: Read + Seek>(mut file: R, most: usize) -> Functions {
+fn functions_of<R: Read + Seek>(dump: Dump<R>, most: usize) -> Functions {
     let mut functions = Functions::new();
     let mut by_index: HashMap<u64, Vec<u8>> = HashMap::new();
     let mut size = 0;
-    let target = match read_jitdump_header(&mut file) {
-        Ok(Some(target)) => target,
-        _ => return functions,
-    };
-    while let Ok(record) = Record::read(&mut file, target) {
+    for record in dump {
         let (index, function) = match record {
             Record::Load { index, begin, size, name } => (index, (begin, size, name)),
             Record::Move { index, begin, size } => match by_index.get(&index) {
                 Some(name) => (index, (begin, size, name.clone())),
                 None => continue,
             },
-            Record::Other => continue,
+            Record::Unwinding { .. } | Record::Other => continue,
         };
         size += function.2.len();
         if size > most {
@@ -76,24 +74,60 @@ fn read_jitdump_records<R: Read + Seek>(mut file: R, most: usize) -> Functions {
     functions
 }
 
-/// Reads the header. Returns the byte order, or `None` if it is another file.
-fn read_jitdump_header<R: Read + Seek>(file: &mut R) -> io::Result<Option<Target>> {
-    let mut head = [0; HEADER];
-    file.read_exact(&mut head)?;
-    let orders = [Order::Little, Order::Big].map(|order| Target { order, address_size: AddressSize::Eight });
-    let target = orders.into_iter().find(|target| target.number(&head[..4]) == u64::from(MAGIC));
-    if let Some(target) = target {
-        file.seek(SeekFrom::Start(target.number(&head[8..])))?;
+/// The records of a file, up to the first one that can't be read.
+pub(super) struct Dump<R> {
+    file: R,
+    /// The byte order. Each number has at most eight bytes.
+    target: Target,
+    /// The machine's number (`e_machine`).
+    pub machine: u16,
+}
+
+impl Dump<BufReader<File>> {
+    /// The records of the file with a path. `None` if it isn't such a file.
+    pub fn open(path: &Path) -> Option<Self> {
+        let is_file = path.metadata().map_or(false, |file| file.is_file());
+        let file = File::open(path).ok().filter(|_| is_file)?;
+        Dump::read(BufReader::new(file))
     }
-    Ok(target)
+}
+
+impl<R: Read + Seek> Dump<R> {
+    /// Reads the header. `None` if it is that of another file.
+    pub fn read(mut file: R) -> Option<Self> {
+        let mut head = [0; HEADER];
+        file.read_exact(&mut head).ok()?;
+        let orders = [Order::Little, Order::Big].map(|order| Target { order, address_size: AddressSize::Eight });
+        let target = orders.into_iter().find(|target| target.number(&head[..4]) == u64::from(MAGIC))?;
+        file.seek(SeekFrom::Start(target.number(&head[8..12]))).ok()?;
+        let machine = u16::try_from(target.number(&head[12..])).unwrap_or(0);
+        Some(Dump { file, target, machine })
+    }
+
+    /// The byte order of the file.
+    pub fn order(&self) -> Order {
+        self.target.order
+    }
+}
+
+impl<R: Read + Seek> Iterator for Dump<R> {
+    type Item = Record;
+
+    fn next(&mut self) -> Option<Record> {
+        Record::read(&mut self.file, self.target).ok()
+    }
 }
 
 /// A record.
-enum Record {
+#[derive(Debug, PartialEq, Eq)]
+pub(super) enum Record {
     /// A function was made.
     Load { index: u64, begin: u64, size: u64, name: Vec<u8> },
     /// A function was moved.
     Move { index: u64, begin: u64, size: u64 },
+    /// The unwind table of the function that is made next: an `.eh_frame` section, and a search table that has this many
+    /// bytes.
+    Unwinding { data: Vec<u8>, header: u64 },
     /// Another record.
     Other,
 }
@@ -111,6 +145,7 @@ impl Record {
         let fixed = match kind {
             LOAD => LOAD_BODY,
             MOVE => MOVE_BODY,
+            UNWINDING => UNWINDING_BODY,
             _ => 0,
         };
         let mut rest = size.checked_sub((RECORD_HEAD + fixed) as u64).ok_or_else(ended_too_early)?;
@@ -126,6 +161,13 @@ impl Record {
             }
             // Before its new address is its old one.
             MOVE => Record::Move { index: word(5), begin: word(3), size: word(4) },
+            // The bytes of both parts, those of the search table, and those that the process has mapped.
+            UNWINDING if word(0) <= rest.min(LONGEST_TABLE) => {
+                let mut data = vec![0; word(0) as usize];
+                file.read_exact(&mut data)?;
+                rest -= word(0);
+                Record::Unwinding { data, header: word(1) }
+            }
             _ => Record::Other,
         };
         file.seek(SeekFrom::Current(i64::try_from(rest).unwrap_or(i64::MAX)))?;
@@ -147,7 +189,7 @@ fn read_function_name<R: Read>(file: &mut R, most: u64) -> io::Result<(Vec<u8>, 
 
 #[cfg(test)]
 mod tests {
-    use super::{is_jitdump_path, read_jitdump_records};
+    use super::{functions_of, is_jitdump_path, Dump, Functions, Record};
     use std::io::Cursor;
 
     fn dump(records: &[(u32, Vec<u8>)]) -> Vec<u8> {
@@ -163,6 +205,10 @@ mod tests {
         bytes
     }
 
+    fn read_functions(bytes: &[u8], most: usize) -> Functions {
+        Dump::read(Cursor::new(bytes)).map_or_else(Functions::new, |dump| functions_of(dump, most))
+    }
+
     fn words(task: u64, words: &[u64]) -> Vec<u8> {
         std::iter::once(&task).chain(words).flat_map(|word| word.to_le_bytes()).collect()
     }
@@ -174,11 +220,22 @@ mod tests {
         let moved = words(5, &[0x8000, 0x7000, 0x8000, 4, 9]);
         let bytes = dump(&[(2, vec![1; 24]), (0, load), (1, moved), (3, Vec::new())]);
         let expected = vec![(0x7000, 4, b"fib".to_vec()), (0x8000, 4, b"fib".to_vec())];
-        assert_eq!(read_jitdump_records(Cursor::new(&bytes), 100), expected);
+        assert_eq!(read_functions(&bytes, 100), expected);
         for end in 0..bytes.len() {
-            assert!(expected.starts_with(&read_jitdump_records(Cursor::new(&bytes[..end]), 100)));
+            assert!(expected.starts_with(&read_functions(&bytes[..end], 100)));
         }
-        assert_eq!(read_jitdump_records(Cursor::new(&bytes), 2), []);
+        assert_eq!(read_functions(&bytes, 2), []);
+    }
+
+    #[test]
+    fn tables_come_before_functions() {
+        let table = [words(6, &[4, 6]), b"tables--".to_vec()].concat();
+        let bytes = dump(&[(4, table), (4, words(9, &[4, 0]))]);
+        let dump = Dump::read(Cursor::new(&bytes)).unwrap();
+        assert_eq!(dump.machine, 62);
+        let records: Vec<Record> = dump.collect();
+        // The second one says that it has more bytes than there are.
+        assert_eq!(records, [Record::Unwinding { data: b"tables".to_vec(), header: 4 }, Record::Other]);
     }
 
     #[test]

@@ -27,6 +27,7 @@ mod frames;
 pub mod html;
 mod jitdump;
 mod kernel;
+mod made_code;
 mod memory;
 mod objects;
 mod popped;

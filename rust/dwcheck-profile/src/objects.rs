@@ -2,8 +2,10 @@
 //! made at run time; where each is looked for.
 
 use super::error::Error;
-use super::jitdump::is_jitdump_path;
+use super::jitdump::{is_jitdump_path, Dump};
+use super::made_code::MadeCode;
 use super::recording::{BuildId, Features, Mapped};
+use super::space::Mapping;
 use super::tables::Tables;
 use dwcheck_elf::fetch::Fetcher;
 use dwcheck_elf::internal::without_row::{address_of_sigpanic, SignalReturn};
@@ -50,13 +52,13 @@ pub struct Object {
     loaded: OnceCell<Loaded>,
 }
 
-/// What is known of an object's file.
+/// What is known of an object's file, or of code that was made at run time.
 #[derive(Debug, Default)]
 pub(super) struct Loaded {
     pub bytes: Option<Bytes>,
     pub machine: Option<(Target, &'static Abi)>,
-    /// The segments that may be executed.
-    code: Vec<Segment>,
+    /// The segments that may be executed. `None` for code that is in no file, whose tables have its addresses.
+    code: Option<Vec<Segment>>,
     /// The tables of the frame sections, `.debug_frame` first. None if the machine isn't known.
     pub tables: Tables,
     /// The addresses of signal frames, as linked: those that tables mark, and those of Go's `sigpanic`.
@@ -66,10 +68,16 @@ pub(super) struct Loaded {
 }
 
 impl Loaded {
-    /// The address as linked of the byte of the file at an offset. `None` if it isn't code.
-    pub fn linked(&self, offset: u64) -> Option<u64> {
+    /// The address as linked of the byte at an address of a mapping. `None` if it isn't code, or if it is code of no file
+    /// that no table covers.
+    pub fn linked(&self, mapping: &Mapping, address: u64) -> Option<u64> {
+        let code = match &self.code {
+            Some(code) => code,
+            None => return Some(address).filter(|address| self.tables.covers(*address)),
+        };
+        let offset = mapping.file_offset(address);
         let has = |segment: &&Segment| offset.checked_sub(segment.offset).map_or(false, |at| at < segment.file_size);
-        let segment = self.code.iter().find(has)?;
+        let segment = code.iter().find(has)?;
         Some(offset.wrapping_sub(segment.offset).wrapping_add(segment.address))
     }
 
@@ -91,7 +99,8 @@ impl Loaded {
             Ok(program) => {
                 let target = program.target();
                 loaded.machine = abi(program.machine(), target.address_size).map(|abi| (target, abi));
-                loaded.code = program.segments().into_iter().filter(|segment| segment.is_executable).collect();
+                let segments = program.segments().into_iter();
+                loaded.code = Some(segments.filter(|segment| segment.is_executable).collect());
                 let (sections, problems) = SectionTable::all(&program);
                 loaded.signals = sections.iter().flat_map(|section| section.signal_frames()).collect();
                 let sigpanic =
@@ -105,14 +114,14 @@ impl Loaded {
                     loaded.tables = Tables::of(sections.into_iter().map(SectionTable::into_owned).collect());
                 }
             }
-            Err(error) => loaded.problems.push(error.to_string()),
+            Err(error) => return Loaded { bytes: Some(bytes), ..Loaded::problem(error.to_string()) },
         }
         loaded.bytes = Some(bytes);
         loaded
     }
 
     fn problem(problem: String) -> Loaded {
-        Loaded { problems: vec![problem], ..Loaded::default() }
+        Loaded { problems: vec![problem], code: Some(Vec::new()), ..Loaded::default() }
     }
 }
 
@@ -122,6 +131,19 @@ pub struct SearchPaths {
     /// The folder that stands for `/`.
     pub root: PathBuf,
     /// perf's cache of files by build id, such as `~/.debug`.
+    /// The code that a process has listed in a file.
+    fn of_dump(path: &Path) -> Loaded {
+        match Dump::open(path) {
+            Some(dump) => {
+                let made = MadeCode::of(dump, MOST_MADE);
+                let abi = abi(made.machine, made.target.address_size);
+                let tables = Tables::of_ranges(made.tables, made.ranges);
+                Loaded { machine: abi.map(|abi| (made.target, abi)), tables, ..Loaded::default() }
+            }
+            None => Loaded::default(),
+        }
+    }
+
     pub cache: Option<PathBuf>,
     /// What fetches files that aren't in a folder, by their build ids.
     pub fetcher: Fetcher,
@@ -176,6 +198,9 @@ impl Objects {
     pub fn new(search_paths: SearchPaths) -> Self {
         Objects { search_paths, ..Objects::default() }
     }
+
+/// The most bytes of unwind tables of code that a process has made.
+const MOST_MADE: usize = 256 << 20;
 
     pub fn all(&self) -> &[Arc<Object>] {
         &self.all
@@ -274,10 +299,18 @@ impl Objects {
         self.all.get(id as usize)
     }
 
-    /// What is known of the file of an object, which is opened when this is first asked.
+    /// What is known of the file of an object, or of the file in which its process lists code that it has made. It is opened
+    /// when this is first asked.
     pub fn loaded(&self, id: ObjectId) -> Option<&Loaded> {
-        let object = self.get(id).filter(|object| object.kind == Kind::File)?;
-        Some(object.loaded.get_or_init(|| object.open(&self.search_paths)))
+        let object = self.get(id)?;
+        match object.kind {
+            Kind::File => Some(object.loaded.get_or_init(|| object.open(&self.search_paths))),
+            Kind::Memory(pid) | Kind::MemoryFile(pid) => {
+                let dump = self.dumps.get(&pid)?;
+                Some(object.loaded.get_or_init(|| Loaded::of_dump(dump)))
+            }
+            Kind::Kernel => None,
+        }
     }
 }
 

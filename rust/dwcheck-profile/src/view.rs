@@ -35,7 +35,7 @@ impl<'v> Sampled<'v> {
     /// The file that has the code at an address, and the address as linked.
     fn linked(&self, address: u64) -> Option<(ObjectId, u64)> {
         let mapping = self.code(address)?;
-        let linked = self.objects.loaded(mapping.object)?.linked(mapping.file_offset(address))?;
+        let linked = self.objects.loaded(mapping.object)?.linked(mapping, address)?;
         Some((mapping.object, linked))
     }
 }

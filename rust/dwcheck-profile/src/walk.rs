@@ -208,7 +208,7 @@ impl<'w> Walker<'w> {
         let offset = mapping.file_offset(address);
         let objects = &self.shared.objects;
         let loaded = objects.loaded(mapping.object);
-        let linked = loaded.and_then(|loaded| loaded.linked(offset)).filter(|_| mapping.is_executable);
+        let linked = loaded.and_then(|loaded| loaded.linked(mapping, address)).filter(|_| mapping.is_executable);
         let kind = objects.get(mapping.object).map(|object| object.kind);
         let shown = if matches!(kind, Some(Kind::File | Kind::MemoryFile(_))) { offset } else { address };
         // A list that a process writes of its code has addresses.

@@ -29,6 +29,7 @@ mod objects;
 mod packages;
 mod profile;
 mod profile_formats;
+mod profile_jit;
 mod profile_made;
 mod profile_page;
 mod program;

@@ -50,7 +50,8 @@ impl<'a> SectionTable<'a> {
         (sections, problems)
     }
 
-    fn of(section: FrameSection<'a>) -> Self {
+    /// The FDEs of a section.
+    pub fn of(section: FrameSection<'a>) -> Self {
         let records = section.records();
         let pieces = FdeRanges::of(records.iter().map(|record| record.addresses().unwrap_or(0..0)));
         SectionTable { section, records, pieces }
