@@ -79,11 +79,12 @@ fn read_recording(arguments: &ProfileArguments, path: &Path, fetcher: &Fetcher) 
     let bar = progress_of_recording(recording.size());
     // This runs in one of the threads, which have stacks of the size that is asked for.
     let (profile, names) = rayon::scope(|_| {
-        let profile = Profile::read(&mut recording, &options, |position| {
+        let mut profile = Profile::read(&mut recording, &options, |position| {
             bar.set_position(position);
             true
         });
         bar.finish_and_clear();
+        profile.add_tail_calls();
         let names =
             Names::read(&profile, &NameOptions { inlined: !arguments.no_inline, lines: arguments.lines, kernel });
         (profile, names)

@@ -45,6 +45,7 @@ pub mod names {
 pub mod internal {
     pub use crate::cfi::section_table::{add_fde, OneFde, SectionTable};
     pub use crate::check::page;
+    pub use crate::debug::variables::TailCall;
     pub use crate::elf::demangle::short_name;
     pub use crate::process::maps::Process;
     pub use crate::process::stack::frame_names::Names;

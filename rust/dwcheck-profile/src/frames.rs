@@ -55,6 +55,8 @@ pub struct Frame {
     pub shown: u64,
     /// Whether that is the return address, which is after the call, as perf shows frames of the kernel.
     pub is_return: bool,
+    /// Whether it is that of a function that ended with a jump to the next one, as call sites prove.
+    pub is_tail_call: bool,
     /// The table that covers it, if one does.
     pub(super) table: Option<TableId>,
     pub(super) is_signal_frame: bool,
@@ -70,6 +72,7 @@ impl Frame {
             place,
             shown,
             is_return: shown != address,
+            is_tail_call: false,
             table: None,
             is_signal_frame: false,
             precedes_signal_return: false,

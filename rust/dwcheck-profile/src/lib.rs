@@ -37,6 +37,7 @@ pub mod script;
 mod space;
 pub mod speedscope;
 mod tables;
+mod tail_calls;
 mod task;
 pub mod top;
 mod tree;

@@ -81,6 +81,17 @@ impl Loaded {
         Some(offset.wrapping_sub(segment.offset).wrapping_add(segment.address))
     }
 
+    /// The offset in the file of the code at an address as linked.
+    pub fn offset_of(&self, linked: u64) -> Option<u64> {
+        let past = |segment: &Segment| linked.checked_sub(segment.address).filter(|past| *past < segment.file_size);
+        self.code.as_ref()?.iter().find_map(|segment| Some(segment.offset.wrapping_add(past(segment)?)))
+    }
+
+    /// The bytes of the file from the code at an address as linked on.
+    pub fn code_at(&self, linked: u64) -> Option<&[u8]> {
+        self.bytes.as_ref()?.get(usize::try_from(self.offset_of(linked)?).ok()?..)
+    }
+
     /// Whether the frames of code at an address as linked are signal frames, whose callers were interrupted.
     pub fn is_signal_frame(&self, address: u64) -> bool {
         self.signals.iter().any(|range| range.contains(&address))
@@ -120,17 +131,6 @@ impl Loaded {
         loaded
     }
 
-    fn problem(problem: String) -> Loaded {
-        Loaded { problems: vec![problem], code: Some(Vec::new()), ..Loaded::default() }
-    }
-}
-
-/// Where files are looked for.
-#[derive(Clone, Debug)]
-pub struct SearchPaths {
-    /// The folder that stands for `/`.
-    pub root: PathBuf,
-    /// perf's cache of files by build id, such as `~/.debug`.
     /// The code that a process has listed in a file.
     fn of_dump(path: &Path) -> Loaded {
         match Dump::open(path) {
@@ -144,6 +144,17 @@ pub struct SearchPaths {
         }
     }
 
+    fn problem(problem: String) -> Loaded {
+        Loaded { problems: vec![problem], code: Some(Vec::new()), ..Loaded::default() }
+    }
+}
+
+/// Where files are looked for.
+#[derive(Clone, Debug)]
+pub struct SearchPaths {
+    /// The folder that stands for `/`.
+    pub root: PathBuf,
+    /// perf's cache of files by build id, such as `~/.debug`.
     pub cache: Option<PathBuf>,
     /// What fetches files that aren't in a folder, by their build ids.
     pub fetcher: Fetcher,
@@ -188,6 +199,9 @@ pub(super) struct Objects {
     search_paths: SearchPaths,
 }
 
+/// The most bytes of unwind tables of code that a process has made.
+const MOST_MADE: usize = 256 << 20;
+
 /// What the kernel adds to the name of a file that was deleted.
 const DELETED: &[u8] = b" (deleted)";
 
@@ -198,9 +212,6 @@ impl Objects {
     pub fn new(search_paths: SearchPaths) -> Self {
         Objects { search_paths, ..Objects::default() }
     }
-
-/// The most bytes of unwind tables of code that a process has made.
-const MOST_MADE: usize = 256 << 20;
 
     pub fn all(&self) -> &[Arc<Object>] {
         &self.all

@@ -105,6 +105,7 @@ fn push_function(names: &Names, frame: &Frame, function: &Function, text: &mut S
     };
     let _ = match function.is_inlined {
         true => text.write_str(" (inlined)"),
+        false if frame.is_tail_call => write!(text, " (tail call) ({})", object),
         false => write!(text, " ({})", object),
     };
     if let Some(source) = function.line {

@@ -54,7 +54,7 @@ impl Tree {
     }
 
     /// The index of a node, which is added if it isn't there.
-    fn node(&mut self, node: Node) -> NodeId {
+    pub(super) fn node(&mut self, node: Node) -> NodeId {
         let next = self.nodes.len() as NodeId;
         let id = *self.ids.entry(node).or_insert(next);
         if id == next {

@@ -32,6 +32,7 @@ mod profile_formats;
 mod profile_jit;
 mod profile_made;
 mod profile_page;
+mod profile_tail_calls;
 mod program;
 mod refusals;
 mod report_page;

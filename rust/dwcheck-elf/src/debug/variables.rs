@@ -19,7 +19,8 @@ mod value;
 mod value_location;
 
 pub(crate) use split::Called;
-pub(crate) use tail_calls::{CallSites, TailCall};
+pub(crate) use tail_calls::CallSites;
+pub use tail_calls::TailCall;
 pub use text::Lines;
 pub use thread_local::Loaded;
 pub use value::{Shape, Value};

@@ -16,7 +16,7 @@ const LONGEST_WAY: usize = 100;
 
 /// A jump to another function at the end of a function.
 #[derive(Clone, Copy, Debug, PartialEq, Eq)]
-pub(crate) struct TailCall {
+pub struct TailCall {
     /// The address of the jump, or the one after it, in the file.
     pub address: u64,
     /// Whether the address is the one after the jump.

@@ -9,6 +9,7 @@ use crate::elf::function_offset::FunctionOffset;
 use crate::elf::functions::Functions;
 use crate::elf::mapped::Bytes;
 use crate::elf::program::Program;
+use once_cell::unsync::OnceCell;
 use rustc_hash::FxHashMap;
 use std::path::{Path, PathBuf};
 
@@ -250,24 +251,32 @@ impl<'a> Names<'a> {
         self.position_of(address, looked_up, found, options)
     }
 
-    /// The jumps at the ends of functions between the call that returns to an address and the function that has the
-    /// address `reached`, if call sites prove them.
-    pub(crate) fn tail_calls(&self, return_address: u64, reached: u64) -> Vec<TailCall> {
+    /// For each call, by the address to which it returns and one in the function that was reached, the jumps at the ends
+    /// of functions between them, if call sites prove them.
+    pub fn tail_calls(&self, calls: &[(u64, u64)]) -> Vec<Vec<TailCall>> {
+        let none = || calls.iter().map(|_| Vec::new()).collect();
         let lines = match &self.debug {
             Debug::Lines(lines) => lines,
-            _ => return Vec::new(),
+            _ => return none(),
         };
-        let named = |name: &str| self.address_of(name);
+        let named = OnceCell::new();
+        let address_of = |name: &str| named.get_or_init(|| self.addresses_by_name()).get(name).copied();
         let sites = lines.all_units().map(CallSites::of);
-        let found = sites.map(|sites| sites.tail_calls(return_address, reached, named));
+        let jumps = |sites: CallSites<'_>| {
+            calls.iter().map(|(returned, reached)| sites.tail_calls(*returned, *reached, address_of)).collect()
+        };
+        let found = sites.map_or_else(none, jumps);
         lines.give_back();
-        found.unwrap_or_default()
+        found
     }
 
-    /// The address of the function that has a name in the file.
-    fn address_of(&self, name: &str) -> Option<u64> {
-        let mut named = self.functions.all().iter().filter(|function| without_version(&function.name) == name);
-        named.next().map(|function| function.begin)
+    /// The addresses of functions by their names. Of several with one name, the first one counts.
+    fn addresses_by_name(&self) -> FxHashMap<&str, u64> {
+        let mut addresses = FxHashMap::default();
+        for function in self.functions.all() {
+            addresses.entry(without_version(&function.name)).or_insert(function.begin);
+        }
+        addresses
     }
 
     /// The name of the function at whose first address a call leads, if what it reached is in another function. `None`

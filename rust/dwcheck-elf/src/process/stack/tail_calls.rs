@@ -2,7 +2,7 @@
 //! that call sites prove.
 
 use super::both_ends::Walked;
-use super::{FoundBy, Frame, Stack, Stacks};
+use super::{FoundBy, Frame, Names, Stack, Stacks};
 use crate::debug::variables::TailCall;
 use crate::process::without_row::Guesser;
 use dwcheck::Registers;
@@ -92,7 +92,8 @@ impl<'a> Stacks<'a> {
         if let Some(known) = self.tail_calls.borrow().get(&key) {
             return known.clone();
         }
-        let found = self.names.borrow().get(&place).map_or_else(Vec::new, |names| names.tail_calls(returned, reached));
+        let proved = |names: &Names<'_>| names.tail_calls(&[(returned, reached)]).pop();
+        let found = self.names.borrow().get(&place).and_then(proved).unwrap_or_default();
         self.tail_calls.borrow_mut().insert(key, found.clone());
         found
     }
