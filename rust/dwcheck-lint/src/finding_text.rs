@@ -3,9 +3,8 @@
 use crate::correct_row::Location;
 use crate::coverage::{Coverage, REASONS};
 use crate::finding::Finding;
-use crate::judge::{Facts, WrongCfa};
+use crate::judge::{Facts, WrongCfa, WrongRule};
 use crate::judging::Way;
-use crate::kinds::Kind;
 use crate::machine::Machine;
 use crate::module::Module;
 use crate::register::Register;
@@ -88,10 +87,12 @@ impl Finding<'_> {
             Some(WrongCfa::Clobbered) => "the register of the row's CFA has been overwritten".to_string(),
             Some(WrongCfa::Restored) => "the register of the row's CFA has the caller's value".to_string(),
             Some(WrongCfa::Number) => "the row's CFA is a number".to_string(),
-            None if self.kind == Kind::ReturnAddressSigning => match self.mark.correct_row.return_address {
-                Some((_, true)) => "the row says that the return address isn't signed".to_string(),
-                _ => "the row says that the return address is signed".to_string(),
-            },
+            None if self.mark.verdict.return_address == Some(WrongRule::Signing) => {
+                match self.mark.correct_row.return_address {
+                    Some((_, true)) => "the row says that the return address isn't signed".to_string(),
+                    _ => "the row says that the return address is signed".to_string(),
+                }
+            }
             None => "the row's return address is wrong".to_string(),
         }
     }
@@ -140,7 +141,9 @@ impl Finding<'_> {
                 }
                 Some(format!(".cfi_def_cfa {}, {}", other.0, offset))
             }
-            _ if self.kind == Kind::ReturnAddressSigning => Some(".cfi_negate_ra_state".to_string()),
+            _ if self.mark.verdict.return_address == Some(WrongRule::Signing) => {
+                Some(".cfi_negate_ra_state".to_string())
+            }
             _ => None,
         }
     }

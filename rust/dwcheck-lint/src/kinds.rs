@@ -58,7 +58,17 @@ kinds! {
     WrongCfa = "wrong CFA",
     /// The return address isn't where the row says.
     ReturnAddress = "return address",
-    /// The row says that the return address is signed where it isn't, or that it isn't where it is.
+    /// The row says that the return address is still in its register, where a call or another instruction has overwritten it.
+    ReturnAddressOverwritten = "return address overwritten",
+    /// The return address was never stored where the row says.
+    ReturnAddressNeverSaved = "return address never saved",
+    /// The return address was signed, and the row follows a few instructions later.
+    LateSignature = "late signature",
+    /// The return address was signed, and no row follows.
+    SignatureWithoutRow = "signature without row",
+    /// The return address was authenticated, and the row follows later or not at all.
+    AuthenticationWithoutRow = "authentication without row",
+    /// The row says in another way that the return address is signed where it isn't, or that it isn't where it is.
     ReturnAddressSigning = "return address signing",
     /// The row says that a register has its value, and it was overwritten.
     RegisterOverwritten = "register overwritten",
@@ -77,10 +87,8 @@ impl Kind {
         let wrong = group.mark.verdict.wrong;
         if wrong.has(Facts::CFA) {
             Kind::of_cfa(module, group)
-        } else if group.mark.verdict.return_address == Some(WrongRule::Signing) {
-            Kind::ReturnAddressSigning
         } else if wrong.has(Facts::RETURN_ADDRESS) {
-            Kind::ReturnAddress
+            Kind::of_return_address(module, group)
         } else if wrong.without(lost).is_empty() && !group.mark.verdict.rules.contains(&Some(WrongRule::Overwritten)) {
             Kind::Private
         } else {
@@ -92,6 +100,28 @@ impl Kind {
     pub fn meaning(self) -> &'static str {
         let place = KINDS.iter().position(|(kind, _)| *kind == self);
         place.and_then(|place| MEANINGS.get(place)).map_or("", |meaning| meaning.trim())
+    }
+
+    /// The kind by what is wrong with the rule of the return address. Where a call stores it in memory, that says no more.
+    fn of_return_address(module: &Module<'_>, group: &Group<'_>) -> Kind {
+        let is_in_register = module.machine.return_slot.is_none();
+        match group.mark.verdict.return_address {
+            Some(WrongRule::Signing) => Kind::of_signing(module, group),
+            Some(WrongRule::Changed) if is_in_register => Kind::ReturnAddressOverwritten,
+            Some(WrongRule::NeverSaved) if is_in_register => Kind::ReturnAddressNeverSaved,
+            _ => Kind::ReturnAddress,
+        }
+    }
+
+    /// The kind by the instruction that has signed or authenticated the return address.
+    fn of_signing(module: &Module<'_>, group: &Group<'_>) -> Kind {
+        let is_signed_then = module.is_signed(group.end);
+        match group.mark.before.map(|(_, effect)| effect) {
+            Some(Effect::Sign { .. }) if is_signed_then => Kind::LateSignature,
+            Some(Effect::Sign { .. }) => Kind::SignatureWithoutRow,
+            Some(Effect::Authenticate { .. } | Effect::Strip { .. }) => Kind::AuthenticationWithoutRow,
+            _ => Kind::ReturnAddressSigning,
+        }
     }
 
     /// Whether it only says where the row is wrong, and not by which instruction.

@@ -364,7 +364,7 @@ fn return_addresses_that_are_signed() {
         for (file, place) in [("a.o", ".text+0x4"), ("a.so", "0x")] {
             let ran = dwcheck_elf(&folder, &format!("lint {}", file));
             let lines = ran.lines();
-            let expected = format!("{}: return address signing at wrong+0x4 ({}", file, place);
+            let expected = format!("{}: signature without row at wrong+0x4 ({}", file, place);
             assert!(lines[0].starts_with(&expected), "{}", ran.out);
             let what = ": backtrace broken: the row says that the return address isn't signed, 4 addresses";
             assert!(lines[0].ends_with(what), "{}", ran.out);

@@ -101,7 +101,7 @@ fn the_return_address_is_in_its_register() {
         g: .cfi_startproc
         mov x0, #1
         ret";
-    AARCH64.planted("link", "return address", text);
+    AARCH64.planted("link", "return address overwritten", text);
 }
 
 #[test]
@@ -378,7 +378,7 @@ const SIGNS: &str = "paciasp
 /// The row after `paciasp` says that the return address isn't signed.
 #[test]
 fn a_late_row_of_a_signature() {
-    AARCH64.planted("signed", "return address signing", SIGNS);
+    AARCH64.planted("signed", "late signature", SIGNS);
 }
 
 /// The row after `autiasp` says that it is still signed; and with another key.
@@ -386,15 +386,15 @@ fn a_late_row_of_a_signature() {
 fn a_late_row_of_an_authentication() {
     let text = SIGNS.replace("WRONG .cfi_negate_ra_state\n", "").replace("RIGHT ", "");
     let text = text.replace("autiasp\n    .cfi", "autiasp\n    RIGHT .cfi");
-    AARCH64.planted("authenticated", "return address signing", &text);
-    AARCH64.planted("key", "return address signing", &text.replace("iasp", "ibsp").replace("autiasp", "autibsp"));
+    AARCH64.planted("authenticated", "authentication without row", &text);
+    AARCH64.planted("key", "authentication without row", &text.replace("iasp", "ibsp").replace("autiasp", "autibsp"));
 }
 
 /// No row speaks of the signature.
 #[test]
 fn a_signature_without_a_row() {
     let text = SIGNS.replace("WRONG .cfi_negate_ra_state\n", "").replace("    .cfi_neg", "    RIGHT .cfi_neg");
-    AARCH64.planted("unsaid", "return address signing", &text);
+    AARCH64.planted("unsaid", "signature without row", &text);
 }
 
 /// `retaa` authenticates and returns, so no row follows; and a copy of the signed address is signed.
@@ -415,7 +415,7 @@ fn signatures_that_last_until_the_return() {
         mov x0, x30
         ret";
     AARCH64.quiet("copied", copied, "");
-    AARCH64.planted("copied-wrong", "return address signing", &copied.replacen(".cfi_neg", "RIGHT .cfi_neg", 2));
+    AARCH64.planted("copied-wrong", "signature without row", &copied.replacen(".cfi_neg", "RIGHT .cfi_neg", 2));
 }
 
 /// What a return address is signed by, if that isn't the CFA, isn't judged; nor are signatures of other
@@ -459,7 +459,7 @@ fn signatures_in_a_frame() {
         ret";
     AARCH64.quiet("in-frame", body, "");
     let text = body.replace("        autiasp\n        .cfi", "        autiasp\n        RIGHT .cfi");
-    AARCH64.planted("in-frame-wrong", "return address signing", &text);
+    AARCH64.planted("in-frame-wrong", "authentication without row", &text);
 }
 
 /// Instructions of the scalable vector extension whose vectors have the numbers of x29 and x30, and one that
@@ -483,7 +483,7 @@ fn scalable_vectors_are_not_general_registers() {
         WRONG cntp x30, p0, p1.d
         cntp x0, p0, p1.d
         ret";
-    AARCH64.planted("scalable", "return address", text);
+    AARCH64.planted("scalable", "return address overwritten", text);
 }
 
 /// Code that signs, in parts that only jumps reach, and in parts that nothing is seen to reach.

@@ -5,6 +5,7 @@
 mod common;
 
 mod aarch64;
+mod aarch64_kinds;
 mod assumptions;
 mod compiled;
 mod i386;
