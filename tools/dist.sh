@@ -17,7 +17,8 @@ x86_64)
     run=
     ;;
 aarch64)
-    built=build/aarch64 loader=ld-linux-aarch64.so.1 unwind=
+    built=build/aarch64 loader=ld-linux-aarch64.so.1
+    unwind="unwind/libunwind.so.8 unwind/libunwind-aarch64.so.8"
     root=build/arm64-root
     run="qemu-aarch64 -L $root"
     ;;

@@ -1,10 +1,11 @@
 #!/usr/bin/env bash
 # Runs the tests of libunwind itself, unchanged, with our libraries in the place of its own.
 #   bench/unwind/suite.sh FOLDER     FOLDER has our libunwind.so.8 (build/unwind)
+#   ARCH=aarch64 bench/unwind/suite.sh build/aarch64/unwind   those for aarch64, under qemu-user, with build/arm64-root
 # A minute. The tests are compiled from Debian's source, which apt fetches. These variables may be set:
 #   WORK      a folder in which the source stays; else it is fetched each time
 #   SOURCE    a folder with the unpacked source, which isn't fetched then
-# This needs libunwind-dev.
+# This needs libunwind-dev; for aarch64 what `make packages ARCH=aarch64` installs, and g++-aarch64-linux-gnu for tests in C++.
 # A test that fails is run with Debian's libunwind8, too: if it passes there, it has to pass here. Prints a line `ok NAME`
 # or `FAILED NAME` for each, and `left out NAME: REASON` for those that aren't of the stack of their own process.
 set -u
@@ -14,6 +15,19 @@ here=$(dirname "$(realpath "$0")")
 work=${WORK:-$(mktemp -d)}
 mkdir -p "$work" && work=$(realpath "$work")
 [ -n "${WORK:-}" ] || trap 'rm -rf "$work"' EXIT
+
+arch=${ARCH:-x86_64}
+root=$(realpath "$here/../../build")/arm64-root
+libraries=$root/usr/lib/aarch64-linux-gnu
+case $arch in
+x86_64) prefix= flags= emulator= ;;
+aarch64)
+    prefix=aarch64-linux-gnu-
+    flags="-idirafter $root/usr/include/aarch64-linux-gnu -L$libraries -Wl,-rpath-link,$libraries"
+    emulator="qemu-aarch64 -cpu max,pauth-impdef=on -L $root"
+    ;;
+*) echo "ARCH is x86_64 or aarch64" >&2 && exit 2 ;;
+esac
 
 # Lists of sources of its own, since most systems have none.
 fetch() {
@@ -27,7 +41,7 @@ fetch() {
 
 # Compiles a test as libunwind's Makefile does, and links it to those of Debian's libraries that it needs.
 build() { # TEST
-    local more= libraries= compiler="gcc -std=gnu11" file
+    local more= libraries= compiler="${prefix}gcc -std=gnu11" file
     case $1 in
     *test-bt | *test-trace | test-ptrace-misc) more=ident.c ;;
     test-ptrace)
@@ -38,15 +52,20 @@ build() { # TEST
     Ltest-init-local-signal) more=Ltest-init-local-signal-lib.c ;;
     esac
     file=$(cd "$source/tests" && ls "$1.c" "$1.cxx" 2> /dev/null)
-    case $file in *.cxx) compiler=g++ ;; esac
+    case $file in *.cxx) compiler=${prefix}g++ ;; esac
     (cd "$source/tests" && $compiler -w -g -O2 -fno-optimize-sibling-calls -fexceptions -D_GNU_SOURCE -DHAVE_EXECINFO_H=1 \
-        -DHAVE_SYS_PTRACE_H=1 -I../include "$file" $more -Wl,--as-needed $libraries -lunwind-x86_64 -lunwind -lpthread -ldl -o "$work/$1") > "$work/build.log" 2>&1
+        -DHAVE_SYS_PTRACE_H=1 -I../include "$file" $more $flags -Wl,--as-needed $libraries "-lunwind-$arch" -lunwind -lpthread -ldl -o "$work/$1") > "$work/build.log" 2>&1
 }
 
 run() { # LIBRARIES TEST WORD..: runs a test with the libraries of a folder, or with the system's
     local libraries=$1 test=$2
     shift 2
-    env ${libraries:+LD_LIBRARY_PATH="$libraries"} timeout 120 "$work/$test" "$@" > "$work/$test.log" 2>&1
+    local path=${libraries:+LD_LIBRARY_PATH=$libraries}
+    if [ "$arch" = aarch64 ]; then
+        timeout 300 $emulator ${path:+-E "$path"} "$work/$test" "$@" > "$work/$test.log" 2>&1
+    else
+        env ${path:+"$path"} timeout 120 "$work/$test" "$@" > "$work/$test.log" 2>&1
+    fi
 }
 
 passes() { # TEST WORD..
@@ -72,15 +91,20 @@ leave_out() { # REASON TEST..
 source=${SOURCE:-$work/source}
 [ -d "$source/tests" ] || fetch || { echo "FAILED libunwind's source can't be fetched: $(tail -n 1 "$work/fetch.log")"; exit 1; }
 
-for test in test-strerror Gtest-bt Ltest-bt Gtest-exc Ltest-exc Gtest-init Ltest-init Gtest-concurrent Ltest-concurrent \
-    Gtest-resume-sig Ltest-resume-sig Gtest-resume-sig-rt Ltest-resume-sig-rt Gtest-trace Ltest-trace Ltest-init-local-signal \
-    Ltest-mem-validate test-async-sig test-flush-cache test-init-remote test-mem test-reg-state Ltest-varargs Ltest-nomalloc \
-    Ltest-nocalloc Lrs-race Ltest-cxx-exceptions Gx64-test-dwarf-expressions Lx64-test-dwarf-expressions \
-    x64-unwind-badjmp-signal-frame test-proc-info test-ptrace; do
-    test_of "$test" passes "$test"
-done
-test_of run-ptrace-mapper follows -n mapper
-test_of run-ptrace-misc follows test-ptrace-misc
+tests="test-strerror Gtest-bt Ltest-bt Gtest-exc Ltest-exc Gtest-init Ltest-init Gtest-concurrent Ltest-concurrent
+    Gtest-resume-sig Ltest-resume-sig Gtest-resume-sig-rt Ltest-resume-sig-rt Gtest-trace Ltest-trace Ltest-init-local-signal
+    Ltest-mem-validate test-async-sig test-flush-cache test-init-remote test-mem test-reg-state Ltest-varargs Ltest-nomalloc
+    Ltest-nocalloc Lrs-race Ltest-cxx-exceptions"
+of_x86_64="Gx64-test-dwarf-expressions Lx64-test-dwarf-expressions x64-unwind-badjmp-signal-frame"
+for test in $tests; do test_of "$test" passes "$test"; done
+if [ "$arch" = x86_64 ]; then
+    for test in $of_x86_64 test-proc-info test-ptrace; do test_of "$test" passes "$test"; done
+    test_of run-ptrace-mapper follows -n mapper
+    test_of run-ptrace-misc follows test-ptrace-misc
+else
+    leave_out "it is for x86-64" $of_x86_64
+    leave_out "there are no calls for other processes" test-proc-info test-ptrace run-ptrace-mapper run-ptrace-misc
+fi
 leave_out "it walks a core file, and fails with libunwind" run-coredump-unwind run-coredump-unwind-mdi
 leave_out "it is linked statically, so it would not run with ours" test-static-link
 leave_out "libunwind-setjmp has libunwind in itself" test-setjmp

@@ -1,7 +1,8 @@
 /* dwcheck-unwind: libunwind's calls for the stacks of the running process and of others, over the walks of dwcheck.h. The
    libraries build/unwind/libunwind.so.8, libunwind-x86_64.so.8 and libunwind-ptrace.so.0 have the names and the binary
    interface of libunwind 1.6 and 1.8 for x86-64 Linux with glibc 2.35 or later: a program that is linked to libunwind uses
-   them by its library path alone.
+   them by its library path alone. For aarch64, build/aarch64/unwind has libunwind.so.8 and libunwind-aarch64.so.8, for the
+   stacks of the running process alone.
    This header is for programs that are built new; it declares the same names and types as <libunwind.h>, so a file
    includes one of the two. The rows of frames are looked up and walked by proved calls; the rest is plain C, which is
    tested and not proved.
@@ -30,6 +31,10 @@
    - unw_resume leaves the floating-point environment as it is, and a DW_CFA_GNU_args_size counts as nothing.
    - Names aren't looked for in compressed debug information (.gnu_debugdata), nor in a file that was replaced since.
    - unw_set_iterate_phdr_function does nothing: modules are those that the loader knows.
+   - On aarch64, unw_getcontext is a call of this library's own, and there are no address spaces but the local one. An address
+     is given without its signature, and one that is written gets none. Registers of floating-point numbers aren't known,
+     and unw_resume leaves them as they are. Where code without a row has made a call, the caller is found by x29, while
+     libunwind 1.6 gives the frame again. libunwind 1.8 ends a walk before a frame whose x29 is 0; here it goes on by rows.
    - _ReadULEB, _ReadSLEB and __libunwind_Unwind_GetBSP, which are helpers of libunwind's, aren't there, and the calls for
      exceptions and backtrace are those of libgcc_s and the C library. */
 #ifndef DWCHECK_UNWIND_H
@@ -53,10 +58,21 @@ extern "C" {
 #define UNW_VERSION_EXTRA 1
 #define UNW_VERSION_CODE(major, minor) ((major) << 16 | (minor))
 #define UNW_VERSION UNW_VERSION_CODE(UNW_VERSION_MAJOR, UNW_VERSION_MINOR)
+#if defined(__aarch64__)
+#define UNW_TARGET aarch64
+#define UNW_TARGET_AARCH64 1
+#define UNW_TDEP_CURSOR_LEN 250
+#define UNW_TDEP_NUM_EH_REGS 4
+#define UNW_OBJ(name) _ULaarch64_##name
+#define UNW_ARCH_OBJ(name) _Uaarch64_##name
+#else
 #define UNW_TARGET x86_64
 #define UNW_TARGET_X86_64 1
 #define UNW_TDEP_CURSOR_LEN 127
 #define UNW_TDEP_NUM_EH_REGS 2
+#define UNW_OBJ(name) _ULx86_64_##name
+#define UNW_ARCH_OBJ(name) _Ux86_64_##name
+#endif
 #define UNW_NUM_EH_REGS UNW_TDEP_NUM_EH_REGS
 
 typedef uint64_t unw_word_t;
@@ -80,7 +96,26 @@ typedef enum {
     UNW_ENOINFO       /* nothing is known of the address */
 } unw_error_t;
 
-/* Registers by their DWARF numbers. */
+/* Registers by their DWARF numbers. On aarch64 libunwind takes x30 for the instruction pointer: unw_get_reg gives the frame's
+   address for it, and also for pc. */
+#if defined(__aarch64__)
+typedef enum {
+    UNW_AARCH64_X0, UNW_AARCH64_X1, UNW_AARCH64_X2, UNW_AARCH64_X3, UNW_AARCH64_X4, UNW_AARCH64_X5, UNW_AARCH64_X6,
+    UNW_AARCH64_X7, UNW_AARCH64_X8, UNW_AARCH64_X9, UNW_AARCH64_X10, UNW_AARCH64_X11, UNW_AARCH64_X12, UNW_AARCH64_X13,
+    UNW_AARCH64_X14, UNW_AARCH64_X15, UNW_AARCH64_X16, UNW_AARCH64_X17, UNW_AARCH64_X18, UNW_AARCH64_X19, UNW_AARCH64_X20,
+    UNW_AARCH64_X21, UNW_AARCH64_X22, UNW_AARCH64_X23, UNW_AARCH64_X24, UNW_AARCH64_X25, UNW_AARCH64_X26, UNW_AARCH64_X27,
+    UNW_AARCH64_X28, UNW_AARCH64_X29, UNW_AARCH64_X30, UNW_AARCH64_SP, UNW_AARCH64_PC, UNW_AARCH64_PSTATE,
+    UNW_AARCH64_RA_SIGN_STATE, UNW_AARCH64_VG = 46,
+    UNW_AARCH64_V0 = 64, UNW_AARCH64_V1, UNW_AARCH64_V2, UNW_AARCH64_V3, UNW_AARCH64_V4, UNW_AARCH64_V5, UNW_AARCH64_V6,
+    UNW_AARCH64_V7, UNW_AARCH64_V8, UNW_AARCH64_V9, UNW_AARCH64_V10, UNW_AARCH64_V11, UNW_AARCH64_V12, UNW_AARCH64_V13,
+    UNW_AARCH64_V14, UNW_AARCH64_V15, UNW_AARCH64_V16, UNW_AARCH64_V17, UNW_AARCH64_V18, UNW_AARCH64_V19, UNW_AARCH64_V20,
+    UNW_AARCH64_V21, UNW_AARCH64_V22, UNW_AARCH64_V23, UNW_AARCH64_V24, UNW_AARCH64_V25, UNW_AARCH64_V26, UNW_AARCH64_V27,
+    UNW_AARCH64_V28, UNW_AARCH64_V29, UNW_AARCH64_V30, UNW_AARCH64_V31, UNW_AARCH64_FPSR, UNW_AARCH64_FPCR,
+    UNW_TDEP_LAST_REG = UNW_AARCH64_FPCR,
+    UNW_AARCH64_CFA = UNW_AARCH64_SP,
+    UNW_TDEP_IP = UNW_AARCH64_X30, UNW_TDEP_SP = UNW_AARCH64_SP, UNW_TDEP_EH = UNW_AARCH64_X0
+} aarch64_regnum_t;
+#else
 typedef enum {
     UNW_X86_64_RAX, UNW_X86_64_RDX, UNW_X86_64_RCX, UNW_X86_64_RBX, UNW_X86_64_RSI, UNW_X86_64_RDI, UNW_X86_64_RBP,
     UNW_X86_64_RSP, UNW_X86_64_R8, UNW_X86_64_R9, UNW_X86_64_R10, UNW_X86_64_R11, UNW_X86_64_R12, UNW_X86_64_R13,
@@ -89,6 +124,7 @@ typedef enum {
     UNW_X86_64_CFA, /* the stack pointer of the frame, which is the CFA of the one that it called */
     UNW_TDEP_IP = UNW_X86_64_RIP, UNW_TDEP_SP = UNW_X86_64_RSP, UNW_TDEP_BP = UNW_X86_64_RBP, UNW_TDEP_EH = UNW_X86_64_RAX
 } x86_64_regnum_t;
+#endif
 
 typedef enum {
     UNW_REG_IP = UNW_TDEP_IP, UNW_REG_SP = UNW_TDEP_SP, UNW_REG_EH = UNW_TDEP_EH, UNW_REG_LAST = UNW_TDEP_LAST_REG
@@ -102,7 +138,22 @@ typedef enum { UNW_INIT_SIGNAL_FRAME = 1 } unw_init_local2_flags_t;
 
 /* Where a walk is. It may be copied. The context with which it began must stay. */
 typedef struct unw_cursor { unw_word_t opaque[UNW_TDEP_CURSOR_LEN]; } unw_cursor_t;
+#if defined(__aarch64__)
+/* It begins as a ucontext_t does, and is shorter. */
+struct unw_sigcontext {
+    uint64_t fault_address, regs[31], sp, pc, pstate;
+    uint8_t __reserved[66 * 8] __attribute__((aligned(16)));
+};
+typedef struct {
+    unsigned long uc_flags;
+    struct ucontext *uc_link;
+    stack_t uc_stack;
+    sigset_t uc_sigmask;
+    struct unw_sigcontext uc_mcontext;
+} unw_tdep_context_t;
+#else
 typedef ucontext_t unw_tdep_context_t;
+#endif
 typedef unw_tdep_context_t unw_context_t;
 
 typedef struct unw_addr_space *unw_addr_space_t;
@@ -182,38 +233,38 @@ void _U_dyn_cancel(unw_dyn_info_t *info);
 unw_word_t _U_dyn_info_list_addr(void);
 
 /* ---- the calls --------------------------------------------------------------------------------------------------- */
-#define unw_local_addr_space _ULx86_64_local_addr_space
-#define unw_create_addr_space _ULx86_64_create_addr_space
-#define unw_destroy_addr_space _ULx86_64_destroy_addr_space
-#define unw_init_local _ULx86_64_init_local
-#define unw_init_local2 _ULx86_64_init_local2
-#define unw_init_remote _ULx86_64_init_remote
-#define unw_step _ULx86_64_step
-#define unw_resume _ULx86_64_resume
-#define unw_get_proc_info _ULx86_64_get_proc_info
-#define unw_get_proc_info_by_ip _ULx86_64_get_proc_info_by_ip
-#define unw_get_proc_info_in_range _ULx86_64_get_proc_info_in_range
-#define unw_reg_states_iterate _ULx86_64_reg_states_iterate
-#define unw_apply_reg_state _ULx86_64_apply_reg_state
-#define unw_get_reg _ULx86_64_get_reg
-#define unw_set_reg _ULx86_64_set_reg
-#define unw_get_fpreg _ULx86_64_get_fpreg
-#define unw_set_fpreg _ULx86_64_set_fpreg
-#define unw_get_save_loc _ULx86_64_get_save_loc
-#define unw_is_signal_frame _ULx86_64_is_signal_frame
-#define unw_get_proc_name _ULx86_64_get_proc_name
-#define unw_get_proc_name_by_ip _ULx86_64_get_proc_name_by_ip
-#define unw_get_elf_filename _ULx86_64_get_elf_filename
-#define unw_get_elf_filename_by_ip _ULx86_64_get_elf_filename_by_ip
-#define unw_set_caching_policy _ULx86_64_set_caching_policy
-#define unw_set_cache_size _ULx86_64_set_cache_size
-#define unw_set_iterate_phdr_function _ULx86_64_set_iterate_phdr_function
-#define unw_get_accessors _Ux86_64_get_accessors
-#define unw_getcontext _Ux86_64_getcontext
-#define unw_is_fpreg _Ux86_64_is_fpreg
-#define unw_regname _Ux86_64_regname
-#define unw_flush_cache _Ux86_64_flush_cache
-#define unw_strerror _Ux86_64_strerror
+#define unw_local_addr_space UNW_OBJ(local_addr_space)
+#define unw_create_addr_space UNW_OBJ(create_addr_space)
+#define unw_destroy_addr_space UNW_OBJ(destroy_addr_space)
+#define unw_init_local UNW_OBJ(init_local)
+#define unw_init_local2 UNW_OBJ(init_local2)
+#define unw_init_remote UNW_OBJ(init_remote)
+#define unw_step UNW_OBJ(step)
+#define unw_resume UNW_OBJ(resume)
+#define unw_get_proc_info UNW_OBJ(get_proc_info)
+#define unw_get_proc_info_by_ip UNW_OBJ(get_proc_info_by_ip)
+#define unw_get_proc_info_in_range UNW_OBJ(get_proc_info_in_range)
+#define unw_reg_states_iterate UNW_OBJ(reg_states_iterate)
+#define unw_apply_reg_state UNW_OBJ(apply_reg_state)
+#define unw_get_reg UNW_OBJ(get_reg)
+#define unw_set_reg UNW_OBJ(set_reg)
+#define unw_get_fpreg UNW_OBJ(get_fpreg)
+#define unw_set_fpreg UNW_OBJ(set_fpreg)
+#define unw_get_save_loc UNW_OBJ(get_save_loc)
+#define unw_is_signal_frame UNW_OBJ(is_signal_frame)
+#define unw_get_proc_name UNW_OBJ(get_proc_name)
+#define unw_get_proc_name_by_ip UNW_OBJ(get_proc_name_by_ip)
+#define unw_get_elf_filename UNW_OBJ(get_elf_filename)
+#define unw_get_elf_filename_by_ip UNW_OBJ(get_elf_filename_by_ip)
+#define unw_set_caching_policy UNW_OBJ(set_caching_policy)
+#define unw_set_cache_size UNW_OBJ(set_cache_size)
+#define unw_set_iterate_phdr_function UNW_OBJ(set_iterate_phdr_function)
+#define unw_get_accessors UNW_ARCH_OBJ(get_accessors)
+#define unw_getcontext UNW_ARCH_OBJ(getcontext)
+#define unw_is_fpreg UNW_ARCH_OBJ(is_fpreg)
+#define unw_regname UNW_ARCH_OBJ(regname)
+#define unw_flush_cache UNW_ARCH_OBJ(flush_cache)
+#define unw_strerror UNW_ARCH_OBJ(strerror)
 
 struct dl_phdr_info;
 typedef int (*unw_iterate_phdr_callback_t)(struct dl_phdr_info *, size_t, void *);
@@ -281,7 +332,7 @@ int _UPT_resume(unw_addr_space_t space, unw_cursor_t *cursor, void *context);
 extern unw_accessors_t _UPT_accessors;
 
 /* Searches a table of another process, in a find_proc_info. `unwind_info` becomes the address of the FDE there. */
-#define dwarf_search_unwind_table _ULx86_64_dwarf_search_unwind_table
+#define dwarf_search_unwind_table UNW_OBJ(dwarf_search_unwind_table)
 int dwarf_search_unwind_table(unw_addr_space_t space, unw_word_t address, unw_dyn_info_t *table, unw_proc_info_t *info,
                               int need_unwind_info, void *context);
 
@@ -290,8 +341,8 @@ int dwarf_search_unwind_table(unw_addr_space_t space, unw_word_t address, unw_dy
 typedef enum {
     UNW_GUESS_NONE = 0,
     UNW_GUESS_PLT,           /* the frame before was in an entry of a PLT, which has pushed nothing */
-    UNW_GUESS_CALL,          /* the frame before is where no code can be: the return address is on top of the stack */
-    UNW_GUESS_FRAME_POINTER  /* the frame before keeps a frame pointer in rbp */
+    UNW_GUESS_CALL,          /* the frame before is where no code can be: the return address is where a call puts it */
+    UNW_GUESS_FRAME_POINTER  /* the frame before keeps a frame pointer in rbp, or x29 */
 } unw_guess_t;
 int unw_is_guess(unw_cursor_t *cursor);
 

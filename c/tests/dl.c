@@ -10,6 +10,7 @@
 #include <setjmp.h>
 #include <signal.h>
 #include <sys/mman.h>
+#include <unistd.h>
 
 static int compare_in_libc(const void *a, const void *b) {
     compare();
@@ -215,22 +216,22 @@ static void test_wild_calls(void) {
 /* ---- the stack */
 
 static void test_stack(void) {
-    enum { PAGE = 4096 };
-    char *pages = mmap(NULL, 4 * PAGE, PROT_READ | PROT_WRITE, MAP_PRIVATE | MAP_ANONYMOUS, -1, 0);
-    mprotect(pages, PAGE, PROT_NONE);
-    mprotect(pages + 3 * PAGE, PAGE, PROT_NONE);
+    const size_t page = (size_t)sysconf(_SC_PAGESIZE);
+    char *pages = mmap(NULL, 4 * page, PROT_READ | PROT_WRITE, MAP_PRIVATE | MAP_ANONYMOUS, -1, 0);
+    mprotect(pages, page, PROT_NONE);
+    mprotect(pages + 3 * page, page, PROT_NONE);
     uint64_t first = (uint64_t)(uintptr_t)pages;
     IS(dwcheck_dl_stack(first).length, 0);
-    IS(dwcheck_dl_stack(first + 2 * PAGE + 5).length, PAGE - 5);
-    IS(dwcheck_dl_stack(first + PAGE).length, 2 * PAGE);
-    IS(dwcheck_dl_stack(first + 2 * PAGE).length, PAGE);
-    IS(dwcheck_dl_stack(first + 3 * PAGE).length, 0);
+    IS(dwcheck_dl_stack(first + 2 * page + 5).length, page - 5);
+    IS(dwcheck_dl_stack(first + page).length, 2 * page);
+    IS(dwcheck_dl_stack(first + 2 * page).length, page);
+    IS(dwcheck_dl_stack(first + 3 * page).length, 0);
     IS(dwcheck_dl_stack(0).length, 0);
     IS(dwcheck_dl_stack((uint64_t)1 << 63).length, 0);
     IS(dwcheck_dl_stack(0).bytes != NULL, 1);
-    munmap(pages + 2 * PAGE, 2 * PAGE);
-    IS(dwcheck_dl_stack(first + PAGE).length, PAGE);
-    munmap(pages, 2 * PAGE);
+    munmap(pages + 2 * page, 2 * page);
+    IS(dwcheck_dl_stack(first + page).length, page);
+    munmap(pages, 2 * page);
     compare();
 }
 

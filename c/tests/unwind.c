@@ -2,7 +2,7 @@
    where they are saved, names and functions are those of libunwind. Prints a line for each failure, and at the end a line
    with counts.
    usage: unwind LIBUNWIND     the path of libunwind's own libunwind.so.8 */
-#include "dwcheck-unwind.h"
+#include "unwind_processor.h"
 
 #include <alloca.h>
 #include <dlfcn.h>
@@ -38,6 +38,7 @@ static struct {
     const char *(*strerror)(int);
     const char *(*regname)(unw_regnum_t);
 } theirs;
+static bool is_of_1_8;
 
 static void *call_of(void *library, const char *name) {
     void *call = dlsym(library, name);
@@ -48,23 +49,20 @@ static void *call_of(void *library, const char *name) {
 static void load(const char *path) {
     void *library = dlopen(path, RTLD_NOW | RTLD_LOCAL | RTLD_DEEPBIND);
     if (!library) printf("%s\n", dlerror()), exit(2);
-    *(void **)&theirs.init_local2 = call_of(library, "_ULx86_64_init_local2");
-    *(void **)&theirs.step = call_of(library, "_ULx86_64_step");
-    *(void **)&theirs.get_reg = call_of(library, "_ULx86_64_get_reg");
-    *(void **)&theirs.get_save_loc = call_of(library, "_ULx86_64_get_save_loc");
-    *(void **)&theirs.is_signal_frame = call_of(library, "_ULx86_64_is_signal_frame");
-    *(void **)&theirs.get_proc_info = call_of(library, "_ULx86_64_get_proc_info");
-    *(void **)&theirs.get_proc_name = call_of(library, "_ULx86_64_get_proc_name");
+    *(void **)&theirs.init_local2 = call_of(library, LOCAL "init_local2");
+    *(void **)&theirs.step = call_of(library, LOCAL "step");
+    *(void **)&theirs.get_reg = call_of(library, LOCAL "get_reg");
+    *(void **)&theirs.get_save_loc = call_of(library, LOCAL "get_save_loc");
+    *(void **)&theirs.is_signal_frame = call_of(library, LOCAL "is_signal_frame");
+    *(void **)&theirs.get_proc_info = call_of(library, LOCAL "get_proc_info");
+    *(void **)&theirs.get_proc_name = call_of(library, LOCAL "get_proc_name");
     *(void **)&theirs.dyn_register = call_of(library, "_U_dyn_register");
     *(void **)&theirs.dyn_cancel = call_of(library, "_U_dyn_cancel");
-    *(void **)&theirs.strerror = call_of(library, "_Ux86_64_strerror");
-    *(void **)&theirs.regname = call_of(library, "_Ux86_64_regname");
+    *(void **)&theirs.strerror = call_of(library, OTHER "strerror");
+    *(void **)&theirs.regname = call_of(library, OTHER "regname");
     IS(theirs.step != unw_step, 1);
+    is_of_1_8 = dlsym(library, LOCAL "get_elf_filename") != NULL;
 }
-
-static const int saved[] = {UNW_X86_64_RBX, UNW_X86_64_RBP, UNW_X86_64_RSP, UNW_X86_64_R12,
-                            UNW_X86_64_R13, UNW_X86_64_R14, UNW_X86_64_R15, UNW_X86_64_RIP};
-enum { SAVED = sizeof saved / sizeof *saved };
 
 static void compare_registers(unw_cursor_t *our, unw_cursor_t *their) {
     for (int i = 0; i < SAVED; i++) {
@@ -73,6 +71,7 @@ static void compare_registers(unw_cursor_t *our, unw_cursor_t *their) {
         IS(unw_get_reg(our, saved[i], &value), theirs.get_reg(their, saved[i], &their_value));
         IS(value, their_value);
         IS(unw_get_save_loc(our, saved[i], &place), theirs.get_save_loc(their, saved[i], &their_place));
+        if (is_of_1_8 && saved[i] == UNW_REG_SP) continue; /* for aarch64 it says nothing of its place */
         IS(place.type, their_place.type);
         IS(place.u.addr, their_place.u.addr);
     }
@@ -82,12 +81,17 @@ static void compare_functions(unw_cursor_t *our, unw_cursor_t *their) {
     unw_proc_info_t info, their_info;
     char name[NAME] = "", their_name[NAME] = "";
     unw_word_t offset = 0, their_offset = 0;
-    IS(unw_get_proc_info(our, &info), theirs.get_proc_info(their, &their_info));
-    IS(info.start_ip, their_info.start_ip);
-    IS(info.end_ip, their_info.end_ip);
-    IS(info.lsda, their_info.lsda);
-    IS(info.handler, their_info.handler);
+    const int found = theirs.get_proc_info(their, &their_info);
+    IS(unw_get_proc_info(our, &info), found);
+    if (found == 0) {
+        IS(info.start_ip, their_info.start_ip);
+        IS(info.end_ip, their_info.end_ip);
+        IS(info.lsda, their_info.lsda);
+        IS(info.handler, their_info.handler);
+    }
+    if (is_in_kernels_code(our)) return;
     const int result = theirs.get_proc_name(their, their_name, NAME, &their_offset);
+    if (is_of_1_8 && result == -UNW_ENOINFO) return; /* it names no function that ends before the address */
     /* For a registered table libunwind takes another format than the one that it has. */
     IS(unw_get_proc_name(our, name, NAME, &offset), result == -UNW_EINVAL ? -UNW_ENOINFO : result);
     IS(strcmp(name, their_name), 0);
@@ -98,16 +102,19 @@ static void compare_functions(unw_cursor_t *our, unw_cursor_t *their) {
 static int compare_from(unw_context_t *context, int flag) {
     unw_cursor_t our, their;
     int count = 0, result;
+    bool is_end_of_theirs;
     IS(unw_init_local2(&our, context, flag), theirs.init_local2(&their, context, flag));
     do {
         IS(unw_is_signal_frame(&our), theirs.is_signal_frame(&their)); /* after get_proc_info theirs is of the next frame */
         compare_registers(&our, &their);
         compare_functions(&our, &their);
         result = theirs.step(&their);
-        IS(unw_step(&our), result);
+        const int our_result = unw_step(&our);
+        is_end_of_theirs = result == 0 && our_result == 1 && has_no_frame_pointer(&our);
+        if (!is_end_of_theirs) IS(our_result, result);
         count++;
     } while (result > 0 && count < ROOM);
-    compare_functions(&our, &their); /* of no frame */
+    if (!is_end_of_theirs) compare_functions(&our, &their); /* of no frame */
     frames += count, walks++;
     return count;
 }
@@ -252,7 +259,7 @@ __attribute__((noinline)) static void walk_here(void) {
 }
 
 static void walks_need_little_stack(void) {
-    static char small[12000] __attribute__((aligned(64))), large[1 << 17] __attribute__((aligned(64)));
+    static char small[SMALL_STACK] __attribute__((aligned(64))), large[1 << 17] __attribute__((aligned(64)));
     const stack_t other = {.ss_sp = small, .ss_size = sizeof small}, compared = {.ss_sp = large, .ss_size = sizeof large};
     memset(small, 0x5a, sizeof small);
     sigaltstack(&other, NULL);
@@ -294,17 +301,14 @@ static void contexts_of_other_threads_are_walked(void) {
     sem_init(&is_there, 0, 0), sem_init(&may_go, 0, 0);
     if (pthread_create(&thread, NULL, waits, NULL)) abort();
     while (sem_wait(&is_there) != 0) continue;
-    IS(compare_from(of_thread, UNW_INIT_SIGNAL_FRAME) > 3, 1);
+    IS(compare_from((unw_context_t *)of_thread, UNW_INIT_SIGNAL_FRAME) > 3, 1);
     sem_post(&may_go);
     pthread_join(thread, NULL);
 }
 
 /* ---- frames without a row ---- */
 
-/* A function with a frame pointer and without a row, which calls compare_guess. */
-void without_row(void);
-__asm__(".text\n.globl without_row\n.type without_row, @function\nwithout_row: push %rbp\nmov %rsp, %rbp\ncall compare_guess\n"
-        "pop %rbp\nret\n.size without_row, . - without_row\n");
+WITHOUT_ROW;
 
 static unw_guess_t guess_after(int steps, const char *want) {
     unw_context_t context;
@@ -326,7 +330,7 @@ void compare_guess(void) {
     unw_context_t context;
     IS(guess_after(3, "calls_without_row"), UNW_GUESS_FRAME_POINTER);
     unw_getcontext(&context);
-    compare_from(&context, 0); /* glibc's backtrace ends here */
+    if (GUESSES_ARE_THEIRS) compare_from(&context, 0); /* glibc's backtrace ends here */
 }
 
 __attribute__((noinline, optimize("no-omit-frame-pointer"))) static void calls_without_row(void) {
@@ -346,23 +350,20 @@ __attribute__((noinline)) static void calls_nothing(void) {
     if (sigsetjmp(back, 1) == 0) nothing();
 }
 
-/* The entry of a PLT by which this program calls raise: it is linked without rows for these. */
+/* The program is linked without rows for entries of its PLT. */
 static void in_plt(void) {
     unw_context_t context;
     unw_cursor_t cursor;
-    unw_word_t entry, caller, value;
-    __asm__("lea raise@PLT(%%rip), %0" : "=r"(entry));
+    unw_word_t stack[1], value;
     unw_getcontext(&context);
-    greg_t *registers = context.uc_mcontext.gregs;
-    unw_word_t stack[] = {caller = (unw_word_t)registers[REG_RIP]};
-    registers[REG_RIP] = (greg_t)entry, registers[REG_RSP] = (greg_t)stack;
+    come_to(&context, entry_of_raise(), stack);
     IS(unw_init_local2(&cursor, &context, UNW_INIT_SIGNAL_FRAME), 0);
     IS(unw_step(&cursor), 1);
     IS(unw_is_guess(&cursor), UNW_GUESS_PLT);
     unw_get_reg(&cursor, UNW_REG_IP, &value);
-    IS(value, caller);
+    IS(value, stack[0]);
     unw_get_reg(&cursor, UNW_REG_SP, &value);
-    IS(value, (unw_word_t)(stack + 1));
+    IS(value, (unw_word_t)stack + PUSHED_BY_CALL);
 }
 
 static void guesses_are_those_of_libunwind_and_marked(void) {
@@ -383,18 +384,15 @@ static struct made {
 enum { PAGE = 4096 };
 
 static void make_function(void) {
-    /* sub $24, %rsp; call *%rdi; add $24, %rsp; ret. After 4 bytes the CFA is rsp + 32. */
-    static const uint8_t code[] = {0x48, 0x83, 0xec, 0x18, 0xff, 0xd7, 0x48, 0x83, 0xc4, 0x18, 0xc3};
-    static const uint8_t cie[] = {20, 0, 0, 0, 0, 0, 0, 0, 1, 'z', 'R', 0, 1, 0x78, 16, 1, 0x1b, 12, 7, 8, 0x80 | 16, 1, 0, 0};
-    static const uint8_t program[] = {0, 0x40 | 4, 14, 32, 0x40 | 6, 14, 8}; /* after no augmentation data */
     made = mmap(NULL, PAGE, PROT_READ | PROT_WRITE | PROT_EXEC, MAP_PRIVATE | MAP_ANONYMOUS, -1, 0);
-    memcpy(made->code, code, sizeof code);
-    memcpy(made->cie, cie, sizeof cie);
+    memcpy(made->code, made_code, sizeof made_code);
+    memcpy(made->cie, made_cie, sizeof made_cie);
     const int32_t words[] = {sizeof made->fde - 4, (int32_t)(made->fde + 4 - made->cie),
-                             (int32_t)(made->code - (made->fde + 8)), sizeof code};
+                             (int32_t)(made->code - (made->fde + 8)), sizeof made_code};
     memcpy(made->fde, words, sizeof words);
-    memcpy(made->fde + sizeof words, program, sizeof program);
+    memcpy(made->fde + sizeof words, made_program, sizeof made_program);
     made->table[1] = (int32_t)(made->fde - made->code);
+    __builtin___clear_cache((char *)made->code, (char *)made->cie);
 }
 
 static void walk_through_made(void) {
@@ -407,7 +405,7 @@ static void walk_through_made(void) {
 static void registered_functions_are_walked_through(void) {
     unw_dyn_info_t ours = {.format = UNW_INFO_FORMAT_REMOTE_TABLE}, its;
     make_function();
-    ours.start_ip = (unw_word_t)made->code, ours.end_ip = ours.start_ip + 11;
+    ours.start_ip = (unw_word_t)made->code, ours.end_ip = ours.start_ip + sizeof made_code;
     ours.u.rti.segbase = ours.start_ip, ours.u.rti.table_data = (unw_word_t)made->table, ours.u.rti.table_len = 1;
     its = ours;
     _U_dyn_register(&ours), theirs.dyn_register(&its);
@@ -420,25 +418,25 @@ static void registered_functions_are_walked_through(void) {
 /* ---- what a program writes is where libunwind says that it is ---- */
 
 static unsigned long written;
-__attribute__((noinline)) static void writes_rbx(void) {
+__attribute__((noinline)) static void writes_register(void) {
     unw_context_t context;
     unw_cursor_t cursor;
     unw_save_loc_t place;
     unw_getcontext(&context);
     unw_init_local(&cursor, &context);
     IS(unw_step(&cursor), 1);
-    IS(unw_set_reg(&cursor, UNW_X86_64_RBX, 0x1234), 0);
-    IS(unw_get_save_loc(&cursor, UNW_X86_64_RBX, &place), 0);
+    IS(unw_set_reg(&cursor, KEPT_NUMBER, 0x1234), 0);
+    IS(unw_get_save_loc(&cursor, KEPT_NUMBER, &place), 0);
     IS(place.type, UNW_SLT_MEMORY);
     IS(*(unsigned long *)place.u.addr, 0x1234);
     IS(unw_set_reg(&cursor, UNW_REG_SP, 1), -UNW_EREADONLYREG);
-    __asm__ volatile("" : : : "rbx");
+    __asm__ volatile("" : : : KEPT_NAME);
 }
 
 __attribute__((noinline)) static void registers_are_written_to_their_places(void) {
-    register unsigned long value __asm__("rbx") = 7;
+    register unsigned long value __asm__(KEPT_NAME) = 7;
     __asm__ volatile("" : "+r"(value));
-    writes_rbx();
+    writes_register();
     __asm__ volatile("" : "+r"(value));
     written = value;
     IS(written, 0x1234);
@@ -473,7 +471,7 @@ static void a_step_by_a_passed_row_is_a_step(void) {
 
 static void texts_are_those_of_libunwind(void) {
     for (int i = -15; i < 3; i++) IS(strcmp(unw_strerror(i), theirs.strerror(i)), 0);
-    for (int i = 0; i < 20; i++) IS(strcmp(unw_regname(i), theirs.regname(i)), 0);
+    for (int i = 0; i < REGISTERS; i++) IS(strcmp(unw_regname(i), theirs.regname(i)), 0);
 }
 
 int main(int argc, char **argv) {

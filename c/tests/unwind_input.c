@@ -1,6 +1,6 @@
 /* Tests libunwind's calls with input that can't be right: cursors of zeros and of random bytes, null pointers, contexts of
    random registers, of which each gets an answer. Prints a line for each failure, and at the end a line with counts. */
-#include "dwcheck-unwind.h"
+#include "unwind_processor.h"
 
 #include <stdio.h>
 #include <stdlib.h>
@@ -79,8 +79,8 @@ static void contexts_of_any_registers_get_an_answer(void) {
         unw_cursor_t cursor;
         void *addresses[20];
         unw_getcontext(&context);
-        for (int j = 0; j <= REG_RIP; j++)
-            if (any() % 2) context.uc_mcontext.gregs[j] = (greg_t)any_content();
+        for (int j = 0; j < GENERAL_REGISTERS; j++)
+            if (any() % 2) REGISTER(&context, j) = (long long)any_content();
         IS(unw_init_local2(&cursor, &context, (int)(any() % 2)), 0);
         for (int j = 0; j < 20 && unw_step(&cursor) > 0; j++) continue;
         unw_backtrace2(addresses, 20, &context, (int)(any() % 2));

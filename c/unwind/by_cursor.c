@@ -1,5 +1,6 @@
 /* Steps of a cursor of dwcheck.h, which knows all registers and every kind of row: for rows that aren't kept, for memory
    that has to be asked for, and to find where registers are saved. They need much stack, so they run on a cache's own. */
+#include "../dl/processor.h"
 #include "unwind.h"
 
 #include <string.h>
@@ -17,13 +18,15 @@ struct step {
     uint32_t status, is_without_row;
 };
 
-static const uint16_t callee_saved[] = {RBX, RBP, R12, R13, R14, R15};
+/* A bit for each register that is known. */
+enum { KNOWN = (REGISTERS + 7) / 8 };
 
-static dwcheck_state state_of(const struct step *step, const uint8_t known[3]) {
-    return (dwcheck_state){.contents = step->frame->values, .contents_length = REGISTERS, .known = known, .known_length = 3,
-                           .blocks = step->memory->blocks, .blocks_length = BLOCKS, .kept = callee_saved,
-                           .kept_length = sizeof callee_saved / sizeof *callee_saved, .stack_pointer = RSP,
-                           .has_stack_pointer = 1};
+static dwcheck_state state_of(const struct step *step, const uint8_t known[KNOWN]) {
+    dwcheck_state state = dwcheck_dl_state_of(step->memory->blocks);
+    state.blocks_length = BLOCKS;
+    state.contents = step->frame->values, state.contents_length = REGISTERS;
+    state.known = known, state.known_length = KNOWN;
+    return state;
 }
 
 /* The address that a rule's expression gives, in the row's section; or false if it has none here. */
@@ -57,7 +60,7 @@ static void move_place(const struct step *step, const dwcheck_state *state, cons
     }
 }
 
-/* A register without a rule stays where it was, as in libunwind: also rsp, whose value is the CFA. */
+/* A register without a rule stays where it was, as in libunwind: also the stack pointer, whose value is the CFA. */
 static void move_places(const struct step *step, const dwcheck_state *state) {
     dwcheck_row row;
     dwcheck_rule rules[DWCHECK_MAX_RULES];
@@ -70,15 +73,16 @@ static void move_places(const struct step *step, const dwcheck_state *state) {
         return;
     for (uint32_t i = 0; i < row.count && i < DWCHECK_MAX_RULES; i++)
         if (rules[i].reg < REGISTERS) move_place(step, state, &rules[i], before);
-    if (row.return_reg < REGISTERS) step->places[RIP] = step->places[row.return_reg];
+    if (row.return_reg < REGISTERS) step->places[IP] = step->places[row.return_reg];
 }
 
 /* Takes the step, on a stack that is large enough. */
 static void take(void *data) {
     struct step *step = data;
-    const uint8_t known[3] = {(uint8_t)step->frame->known, (uint8_t)(step->frame->known >> 8), 1};
+    uint8_t known[KNOWN];
+    for (int i = 0; i < KNOWN; i++) known[i] = (uint8_t)(step->frame->known >> 8 * i);
     const dwcheck_state state = state_of(step, known);
-    const uint32_t exact = step->key != step->frame->values[RIP];
+    const uint32_t exact = step->key != step->frame->values[IP];
     dwcheck_fault fault;
     step->status = dwcheck_cursor_init(&step->cursor, step->key - !!exact, &state, exact, &fault);
     if (step->status == DWCHECK_DONE)
@@ -88,26 +92,37 @@ static void take(void *data) {
         move_places(step, &state);
 }
 
-/* The kernel has saved the registers where a handler's stack pointer is when it returns. */
+/* The kernel has saved the registers near a handler's stack pointer when it returns. */
 static void go_to_caller(struct step *step) {
     struct frame *frame = step->frame;
     const dwcheck_cursor *cursor = &step->cursor;
     frame->is_interrupted = cursor->stage == DWCHECK_CURSOR_EXACT;
-    if (frame->is_interrupted) frame->signal_context = frame->values[RSP];
-    for (int i = 0; i < RIP; i++) {
-        if (cursor->known[i]) frame->values[i] = cursor->contents[i], frame->known |= 1u << i;
-        else if (KEPT_REGISTERS >> i & 1) frame->known &= ~(1u << i);
+    if (frame->is_interrupted) frame->signal_context = frame->values[SP] + SAVED_CONTEXT;
+    for (int i = 0; i < ROW_REGISTERS; i++) {
+        if (cursor->known[i]) frame->values[i] = cursor->contents[i], frame->known |= UINT64_C(1) << i;
+        else if (KEPT_REGISTERS >> i & 1) frame->known &= ~(UINT64_C(1) << i);
     }
-    frame->values[RIP] = cursor->address;
+    if (!frame->is_interrupted) frame->known &= ~CHANGED_BY_CALLS;
+    frame->values[IP] = cursor->address;
     frame->key = cursor->address + frame->is_interrupted;
     frame->guess = UNW_GUESS_NONE;
 }
 
-/* Whether a step might succeed with more memory: then there is more. */
+/* Whether a register that the frame has is lost. */
+static bool has_lost_register(const struct step *step) {
+    for (int i = 0; i < ROW_REGISTERS; i++)
+        if (KEPT_REGISTERS >> i & step->frame->known >> i & 1 && !step->cursor.known[i] && !(CHANGED_BY_CALLS >> i & 1)) return true;
+    return false;
+}
+
+/* Whether a step might find more with more memory: then there is more. On aarch64 registers may be saved above the return
+   address. */
 static bool gets_memory(const struct step *step, struct memory *memory) {
-    if (step->cursor.stage != DWCHECK_STOP_RETURN_UNREADABLE + 1) return false;
+    const uint32_t stage = step->cursor.stage;
+    const bool is_short = DWCHECK_DL_SAVES_BELOW && stage <= DWCHECK_CURSOR_CALLER && has_lost_register(step);
+    if (stage != DWCHECK_STOP_RETURN_UNREADABLE + 1 && !is_short) return false;
     uint64_t cfa = step->written.cfa.kind == DWCHECK_ANSWER_VALUE ? step->written.cfa.value : 0;
-    return dwcheck_unwind_extend(memory, step->frame->values[RSP], cfa);
+    return dwcheck_unwind_extend(memory, step->frame->values[SP], cfa);
 }
 
 int dwcheck_unwind_by_cursor(struct cache *cache, struct frame *frame, struct memory *memory, uint64_t key,

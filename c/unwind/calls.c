@@ -26,8 +26,8 @@ static const struct frame *frame_of(const unw_cursor_t *cursor) {
 int unw_init_local2(unw_cursor_t *cursor, unw_context_t *context, int flag) {
     struct cursor *own = (void *)cursor;
     if (!cursor || !context || (flag != 0 && flag != UNW_INIT_SIGNAL_FRAME)) return -UNW_EINVAL;
-    *own = (struct cursor){.mark = MARK, .context = context, .is_exact = flag == UNW_INIT_SIGNAL_FRAME};
-    dwcheck_unwind_frame_of(&own->frame, context, own->is_exact);
+    *own = (struct cursor){.mark = MARK, .context = (ucontext_t *)context, .is_exact = flag == UNW_INIT_SIGNAL_FRAME};
+    dwcheck_unwind_frame_of(&own->frame, own->context, own->is_exact);
     return 0;
 }
 
@@ -55,9 +55,9 @@ int unw_get_reg(unw_cursor_t *cursor, int number, unw_word_t *value) {
     const struct cursor *own = cursor_of(cursor);
     if (!own) return dwcheck_remote_get_reg(cursor, number, value);
     if (!value) return -UNW_EINVAL;
-    if (number == UNW_X86_64_CFA) number = RSP;
+    number = register_of(number);
     if (number < 0 || number >= REGISTERS) return -UNW_EBADREG;
-    if (number != RIP && !(own->frame.known >> number & 1)) return -UNW_EBADREG;
+    if (number != IP && !(own->frame.known >> number & 1)) return -UNW_EBADREG;
     *value = own->frame.values[number];
     return 0;
 }
@@ -75,14 +75,14 @@ static int write_place(struct cursor *own, int number, unw_word_t value) {
 int unw_set_reg(unw_cursor_t *cursor, int number, unw_word_t value) {
     struct cursor *own = cursor_of(cursor);
     if (!own) return dwcheck_remote_set_reg(cursor, number, value);
-    if (number == UNW_X86_64_CFA || number == RSP) return -UNW_EREADONLYREG;
-    if (number < 0 || number >= REGISTERS) return -UNW_EBADREG;
-    bool is_argument = number == UNW_X86_64_RAX || number == UNW_X86_64_RDX;
-    int result = is_argument ? 0 : write_place(own, number, value);
+    const int content = register_of(number);
+    if (content == SP) return -UNW_EREADONLYREG;
+    if (content < 0 || content >= REGISTERS) return -UNW_EBADREG;
+    int result = is_argument(number) ? 0 : write_place(own, number, value);
     if (result < 0) return result;
-    own->frame.values[number] = value;
-    own->frame.known |= 1u << number;
-    if (number == RIP) own->frame.key = value + own->frame.is_interrupted;
+    own->frame.values[content] = value;
+    own->frame.known |= UINT64_C(1) << content;
+    if (content == IP) own->frame.key = value + own->frame.is_interrupted;
     return 0;
 }
 
@@ -101,8 +101,8 @@ int unw_get_save_loc(unw_cursor_t *cursor, int number, unw_save_loc_t *location)
     struct place places[REGISTERS];
     if (!own) return dwcheck_remote_get_save_loc(cursor, number, location);
     if (!location) return -UNW_EINVAL;
-    memset(location, 0, sizeof *location);
-    if (number < 0 || number >= REGISTERS || !(KEPT_REGISTERS >> number & 1)) return 0;
+    dwcheck_unwind_put_place((struct place){0, PLACE_NONE}, location);
+    if (number < 0 || number >= REGISTERS || !(PLACED_REGISTERS >> number & 1)) return 0;
     if (!dwcheck_unwind_places(own, places)) return -UNW_EUNSPEC;
     dwcheck_unwind_put_place(places[number], location);
     return 0;
@@ -110,7 +110,7 @@ int unw_get_save_loc(unw_cursor_t *cursor, int number, unw_save_loc_t *location)
 
 int unw_is_signal_frame(unw_cursor_t *cursor) {
     const struct frame *frame = frame_of(cursor);
-    return frame ? (int)frame->is_interrupted : -UNW_EINVAL;
+    return frame ? dwcheck_unwind_is_signal_frame(frame) : -UNW_EINVAL;
 }
 
 int unw_is_guess(unw_cursor_t *cursor) {
@@ -122,10 +122,10 @@ int unw_is_guess(unw_cursor_t *cursor) {
 int unw_resume(unw_cursor_t *cursor) {
     struct cursor *own = cursor_of(cursor);
     if (!own) return dwcheck_remote_resume(cursor);
-    if (own->frame.is_last || !(own->frame.known >> RSP & 1)) return -UNW_EBADFRAME;
+    if (own->frame.is_last || !(own->frame.known >> SP & 1)) return -UNW_EBADFRAME;
     ucontext_t *saved = (void *)own->frame.signal_context;
     if (!saved) dwcheck_unwind_continue(own->frame.values);
-    if (!dwcheck_unwind_can_read((uint64_t)saved, offsetof(ucontext_t, __ssp))) return -UNW_EBADFRAME;
+    if (!dwcheck_unwind_can_read((uint64_t)saved, CONTEXT_LENGTH)) return -UNW_EBADFRAME;
     for (int i = 0; i < REGISTERS; i++)
         if (own->frame.known >> i & 1) *dwcheck_unwind_in_context(saved, i) = own->frame.values[i];
     dwcheck_unwind_return_from_signal(saved);
@@ -188,14 +188,13 @@ int unw_apply_reg_state(unw_cursor_t *cursor, void *state) {
 
 /* ---- functions ---- */
 
-/* On x86-64 some functions where a stack begins have no FDE, so libunwind gives them one address. */
 int unw_get_proc_info(unw_cursor_t *cursor, unw_proc_info_t *info) {
     const struct cursor *own = cursor_of(cursor);
     if (!own) return dwcheck_remote_get_proc_info(cursor, info);
     if (!info) return -UNW_EINVAL;
-    if (dwcheck_unwind_procedure(own->frame.key - 1, info) == 0) return 0;
-    memset(info, 0, sizeof *info);
-    info->start_ip = own->frame.values[RIP];
+    const int result = dwcheck_unwind_procedure(own->frame.key - 1, info);
+    if (result == 0 || !IS_FUNCTION_WITHOUT_ROW) return result;
+    info->start_ip = own->frame.values[IP];
     info->end_ip = info->start_ip + 1;
     return 0;
 }
@@ -234,7 +233,7 @@ static int at_frame(unw_cursor_t *cursor, char *name, size_t size, unw_word_t *o
     const struct cursor *own = cursor_of(cursor);
     if (!own || !name || size == 0) return -UNW_EINVAL;
     int result = find(own->frame.key - 1, name, size, offset);
-    if (result == 0 && offset) *offset += own->frame.values[RIP] - (own->frame.key - 1);
+    if (result == 0 && offset) *offset += own->frame.values[IP] - (own->frame.key - 1);
     return result;
 }
 
@@ -248,17 +247,15 @@ int unw_get_elf_filename(unw_cursor_t *cursor, char *name, size_t size, unw_word
     return at_frame(cursor, name, size, offset, dwcheck_unwind_file);
 }
 
-/* ---- many frames at once; unw_backtrace is in context.S ---- */
+/* ---- many frames at once; unw_backtrace is in assembler ---- */
 
 int unw_backtrace2(void **addresses, int size, unw_context_t *context, int flag) {
     if (size <= 0) return 0;
     if (!context) return unw_backtrace(addresses, size);
     if (flag != 0 && flag != UNW_INIT_SIGNAL_FRAME) return 0;
-    const greg_t *from = context->uc_mcontext.gregs;
-    const dwcheck_register_place place = {
-        (uint64_t)from[REG_RIP], (uint64_t)from[REG_RIP] + (flag != 0), (uint64_t)from[REG_RSP], (uint64_t)from[REG_RBX],
-        (uint64_t)from[REG_RBP], (uint64_t)from[REG_R12], (uint64_t)from[REG_R13], (uint64_t)from[REG_R14],
-        (uint64_t)from[REG_R15]};
+    struct frame frame;
+    dwcheck_unwind_frame_of(&frame, (const ucontext_t *)context, flag != 0);
+    const dwcheck_dl_place place = dwcheck_unwind_place_of(&frame);
     return dwcheck_unwind_addresses(addresses, size, &place);
 }
 

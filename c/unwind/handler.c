@@ -1,6 +1,7 @@
 /* Frames of signals. The C library's row for the code to which handlers return says by an expression for each register where
    the kernel has saved it. To evaluate these takes longer than many frames, so this code is known by its bytes, and the
-   registers are taken from the kernel's context, to which the stack pointer leads. */
+   registers are taken from the kernel's context, to which the stack pointer leads. On aarch64 it is in the kernel's vDSO, for
+   which there are no rows. */
 #include "../dl/walk.h"
 #include "unwind.h"
 
@@ -9,9 +10,9 @@ static bool is_return_of_handler(uint64_t address, bool has_row) {
 }
 
 bool dwcheck_unwind_leave_handler(struct frame *frame, struct memory *memory, struct place *places, bool has_row) {
-    const uint64_t saved = frame->values[RSP];
-    if (frame->key != frame->values[RIP] || !is_return_of_handler(frame->key, has_row)) return false;
-    if (!dwcheck_unwind_has(memory, saved, offsetof(ucontext_t, uc_mcontext) + sizeof(gregset_t))) return false;
+    const uint64_t saved = frame->values[SP] + SAVED_CONTEXT;
+    if (frame->key != frame->values[IP] || !is_return_of_handler(frame->key, has_row)) return false;
+    if (!dwcheck_unwind_has(memory, saved, CONTEXT_LENGTH)) return false;
     ucontext_t *context = (void *)saved;
     dwcheck_unwind_frame_of(frame, context, true);
     frame->is_interrupted = 1;

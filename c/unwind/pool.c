@@ -25,7 +25,7 @@ struct cache {
     const void *owner; /* the thread that has claimed it */
     uint64_t permanent; /* the slots of modules that stay loaded as long as this library */
     struct slot slots[SLOTS];
-    dwcheck_rows rows;
+    dwcheck_dl_rows rows;
     uint8_t stack[STACK] __attribute__((aligned(64)));
 };
 
@@ -87,9 +87,9 @@ static void in_child(void) {
     }
 }
 
-__attribute__((constructor)) static void begin(void) { pthread_atfork(NULL, NULL, in_child); }
+__attribute__((constructor)) static void begin(void) { dwcheck_unwind_at_fork(in_child); }
 
-dwcheck_rows *dwcheck_unwind_rows(struct cache *cache) { return &cache->rows; }
+dwcheck_dl_rows *dwcheck_unwind_rows(struct cache *cache) { return &cache->rows; }
 
 void dwcheck_unwind_flush(void) { atomic_fetch_add(&generation, 1); }
 
@@ -129,7 +129,7 @@ static bool is_permanent(const struct dwcheck_dl_object *object) {
 static void take_slot(struct cache *cache, int number, const struct dwcheck_dl_object *object) {
     struct slot *slot = &cache->slots[number];
     cache->permanent &= ~(UINT64_C(1) << number);
-    if (slot->module.object.end != 0) dwcheck_rows_forget(&cache->rows, (uint32_t)number);
+    if (slot->module.object.end != 0) dwcheck_dl_rows_forget(&cache->rows, (uint32_t)number);
     dwcheck_dl_describe(object, &slot->module);
     if (slot->module.id_length == ID) memcpy(slot->id, slot->module.id, ID);
     if (slot->module.frame_length != 0 && is_permanent(object)) cache->permanent |= UINT64_C(1) << number;
@@ -166,8 +166,8 @@ static void fill(void *data) {
     const dwcheck_module module = dwcheck_dl_section_of(found);
     const dwcheck_header header = dwcheck_dl_header_of(found);
     dwcheck_fault fault;
-    filling->status = dwcheck_rows_fill(&filling->cache->rows, (uint32_t)filling->slot, &module, &header, filling->address,
-                                        &fault);
+    filling->status = dwcheck_dl_rows_fill(&filling->cache->rows, (uint32_t)filling->slot, &module, &header, filling->address,
+                                           &fault);
 }
 
 uint32_t dwcheck_unwind_fill(struct cache *cache, int slot, uint64_t address) {

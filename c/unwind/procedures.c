@@ -56,7 +56,7 @@ int dwcheck_unwind_procedure(uint64_t address, unw_proc_info_t *info) {
     struct dwcheck_dl_module found;
     dwcheck_record record;
     uint64_t offset;
-    memset(info, 0, sizeof *info);
+    memset(info, 0, offsetof(unw_proc_info_t, extra)); /* libunwind 1.6 for aarch64 has no more of it */
     if (is_registered(address, info)) return 0;
     if (!dwcheck_unwind_module_at(address, &found)) return -UNW_ENOINFO;
     const dwcheck_module module = dwcheck_dl_section_of(&found);

@@ -4,25 +4,18 @@
 
 #include <string.h>
 
-/* The places of registers in a context, by their DWARF numbers. */
-static const uint8_t in_context[REGISTERS] = {REG_RAX, REG_RDX, REG_RCX, REG_RBX, REG_RSI, REG_RDI, REG_RBP, REG_RSP, REG_R8,
-                                              REG_R9,  REG_R10, REG_R11, REG_R12, REG_R13, REG_R14, REG_R15, REG_RIP};
-
-uint64_t *dwcheck_unwind_in_context(ucontext_t *context, int number) {
-    return number < 0 || number >= REGISTERS ? NULL : (uint64_t *)&context->uc_mcontext.gregs[in_context[number]];
-}
-
 void dwcheck_unwind_frame_of(struct frame *frame, const ucontext_t *context, bool is_exact) {
-    for (int i = 0; i < REGISTERS; i++) frame->values[i] = (uint64_t)context->uc_mcontext.gregs[in_context[i]];
-    frame->key = frame->values[RIP] + is_exact;
+    for (int i = 0; i < REGISTERS; i++) frame->values[i] = *dwcheck_unwind_in_context((ucontext_t *)context, i);
+    frame->key = frame->values[IP] + is_exact;
     frame->known = ALL_REGISTERS;
     frame->guess = UNW_GUESS_NONE;
     frame->is_interrupted = frame->is_last = 0;
     frame->signal_context = 0;
 }
 
+/* What libunwind 1.6 for aarch64 has of it ends before `extra`. */
 void dwcheck_unwind_put_place(struct place place, unw_save_loc_t *location) {
-    memset(location, 0, sizeof *location);
+    memset(location, 0, offsetof(unw_save_loc_t, extra));
     if (place.kind == PLACE_MEMORY) location->type = UNW_SLT_MEMORY, location->u.addr = place.at;
     if (place.kind == PLACE_REGISTER) location->type = UNW_SLT_REG, location->u.regnum = (unw_regnum_t)place.at;
 }

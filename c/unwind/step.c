@@ -1,24 +1,9 @@
 /* Walks: with kept rows, and where these don't do, by steps of a cursor and by guesses. */
 #include "unwind.h"
 
-static dwcheck_register_place place_of(const struct frame *frame) {
-    const uint64_t *values = frame->values;
-    return (dwcheck_register_place){values[RIP], frame->key, values[RSP], values[RBX], values[RBP],
-                                    values[R12], values[R13], values[R14], values[R15]};
-}
-
-/* Puts a frame where a walk with kept rows is, which keeps these registers; the others stay as they are. */
-static void go_to(struct frame *frame, const dwcheck_register_place *place) {
-    uint64_t *values = frame->values;
-    values[RIP] = place->address, frame->key = place->key, values[RSP] = place->stack_pointer;
-    values[RBX] = place->rbx, values[RBP] = place->rbp, values[R12] = place->r12;
-    values[R13] = place->r13, values[R14] = place->r14, values[R15] = place->r15;
-    frame->guess = UNW_GUESS_NONE, frame->is_interrupted = 0;
-}
-
 int dwcheck_unwind_end(struct frame *frame) {
     frame->is_last = 1;
-    frame->values[RIP] = frame->key = 0;
+    frame->values[IP] = frame->key = 0;
     return 0;
 }
 
@@ -29,14 +14,14 @@ enum { BY_CURSOR = 2, BY_ROW = 3, BY_GUESS = 4 };
 /* Takes a step with kept rows. */
 static int step_by_rows(struct cache *cache, struct frame *frame, const struct memory *memory, int slot) {
     for (int filled = 0;; filled++) {
-        dwcheck_register_place place = place_of(frame);
-        dwcheck_register_frame written;
+        dwcheck_dl_place place = dwcheck_unwind_place_of(frame);
+        dwcheck_dl_frame written;
         size_t count;
         uint32_t stop;
-        dwcheck_walk_frames(dwcheck_unwind_rows(cache), UINT64_C(1) << slot, &place, memory->blocks, 1, &written, 1, &count,
-                            &stop);
+        dwcheck_dl_rows_walk_frames(dwcheck_unwind_rows(cache), UINT64_C(1) << slot, &place, memory->blocks, &written, 1, &count,
+                                    &stop);
         if (count == 1 && stop == DWCHECK_STOP_LIMIT) {
-            go_to(frame, &place);
+            dwcheck_unwind_go_to(frame, &place);
             return 1;
         }
         if (count == 1 && stop == DWCHECK_STOP_RETURN_UNDEFINED) return dwcheck_unwind_end(frame);
@@ -60,17 +45,17 @@ static int step(struct cache *cache, struct frame *frame, struct memory *memory,
 
 int dwcheck_unwind_step(struct cache *cache, struct frame *frame, struct memory *memory, struct place *places) {
     if (frame->is_last) return 0;
-    const uint64_t before = frame->values[RIP], stack_pointer = frame->values[RSP];
+    const uint64_t before = frame->values[IP], stack_pointer = frame->values[SP];
     dwcheck_unwind_reach(memory, stack_pointer);
     const int result = step(cache, frame, memory, places);
     if (result > 0 && frame->key == 0) return dwcheck_unwind_end(frame); /* where some threads begin; no null call */
-    if (result > 0 && frame->values[RIP] == before && frame->values[RSP] == stack_pointer) return -UNW_EBADFRAME;
+    if (result > 0 && frame->values[IP] == before && frame->values[SP] == stack_pointer) return -UNW_EBADFRAME;
     return result;
 }
 
 int dwcheck_unwind_step_by(struct cache *cache, struct frame *frame, struct memory *memory, uint64_t key) {
     if (frame->is_last) return 0;
-    dwcheck_unwind_reach(memory, frame->values[RSP]);
+    dwcheck_unwind_reach(memory, frame->values[SP]);
     return dwcheck_unwind_by_cursor(cache, frame, memory, key, NULL);
 }
 
@@ -87,15 +72,15 @@ struct addresses {
     int passed, idle;
 };
 
-static void begin(struct addresses *walk, const dwcheck_register_place *from) {
+static void begin(struct addresses *walk, const dwcheck_dl_place *from) {
     for (int i = 0; i < BLOCKS; i++) walk->memory.blocks[i] = (dwcheck_block){0};
     walk->confirmed = dwcheck_unwind_permanent(walk->cache);
     walk->passed = walk->idle = 0;
     walk->frame.known = KEPT_REGISTERS;
     walk->frame.is_last = 0;
     walk->frame.signal_context = 0;
-    go_to(&walk->frame, from);
-    walk->place = (dwcheck_place){from->address, from->key, from->stack_pointer, from->rbp, 0, 0};
+    dwcheck_unwind_go_to(&walk->frame, from);
+    walk->place = (dwcheck_place){from->address, from->key, from->stack_pointer, walk->frame.values[FP], 0, 0};
     dwcheck_unwind_reach(&walk->memory, from->stack_pointer);
 }
 
@@ -124,7 +109,7 @@ static bool catch_up(struct addresses *walk) {
 /* From the code to which a handler returns the walk goes on without the registers of the frames before. */
 static bool leave_handler(struct addresses *walk) {
     struct frame frame = {.known = 0};
-    frame.values[RIP] = frame.key = walk->place.address, frame.values[RSP] = walk->place.stack_pointer;
+    frame.values[IP] = frame.key = walk->place.address, frame.values[SP] = walk->place.stack_pointer;
     if (walk->place.key != walk->place.address) return false;
     if (!dwcheck_unwind_leave_handler(&frame, &walk->memory, NULL, true)) return false;
     walk->frame = frame;
@@ -141,7 +126,7 @@ static bool step_over(struct addresses *walk, uint32_t stop, void **address) {
         if (!catch_up(walk) || dwcheck_unwind_step(walk->cache, &walk->frame, &walk->memory, NULL) <= 0) return false;
     }
     const uint64_t *values = walk->frame.values;
-    walk->place = (dwcheck_place){values[RIP], walk->frame.key, values[RSP], values[RBP], 0, 0};
+    walk->place = (dwcheck_place){values[IP], walk->frame.key, values[SP], values[FP], 0, 0};
     dwcheck_unwind_reach(&walk->memory, walk->place.stack_pointer);
     return true;
 }
@@ -153,8 +138,8 @@ enum { MOST_IDLE = 8 };
 static bool go_on(struct addresses *walk, void **addresses, int size, int *count) {
     size_t more;
     uint32_t stop;
-    dwcheck_walk(dwcheck_unwind_rows(walk->cache), walk->confirmed, &walk->place, walk->memory.blocks, 1,
-                 (uint64_t *)addresses, (size_t)size, &more, &stop);
+    dwcheck_dl_rows_walk(dwcheck_unwind_rows(walk->cache), walk->confirmed, &walk->place, walk->memory.blocks,
+                         (uint64_t *)addresses, (size_t)size, &more, &stop);
     *count = (int)more;
     walk->passed += (int)more;
     walk->idle = more ? 0 : walk->idle + 1;
@@ -169,7 +154,7 @@ static bool go_on(struct addresses *walk, void **addresses, int size, int *count
     return goes_on;
 }
 
-int dwcheck_unwind_addresses(void **addresses, int size, const dwcheck_register_place *from) {
+int dwcheck_unwind_addresses(void **addresses, int size, const dwcheck_dl_place *from) {
     struct addresses walk;
     int count = 0, more;
     if (size <= 0 || !(walk.cache = dwcheck_unwind_claim())) return 0;

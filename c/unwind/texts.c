@@ -1,16 +1,5 @@
-/* The names of registers and errors, in libunwind's words. */
+/* The texts of errors, in libunwind's words. */
 #include "unwind.h"
-
-const char *unw_regname(unw_regnum_t number) {
-    static const char *const names[REGISTERS] = {"RAX", "RDX", "RCX", "RBX", "RSI", "RDI", "RBP", "RSP", "R8",
-                                                 "R9",  "R10", "R11", "R12", "R13", "R14", "R15", "RIP"};
-    return number >= 0 && number < REGISTERS ? names[number] : "???";
-}
-
-int unw_is_fpreg(int number) {
-    (void)number;
-    return 0;
-}
 
 const char *unw_strerror(int error) {
     static const char *const texts[] = {

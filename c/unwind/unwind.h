@@ -4,17 +4,12 @@
 #define DWCHECK_UNWIND_INTERNAL_H
 
 #include "dwcheck-unwind.h"
-#include "../dl/find.h"
+#include "../dl/rows.h"
 #include "dwcheck.h"
 #include <stdbool.h>
+#include "processor.h"
 
 #define HIDDEN __attribute__((visibility("hidden")))
-
-/* Registers by their DWARF numbers, which are libunwind's too. */
-enum { RBX = 3, RBP = 6, RSP = 7, R12 = 12, R13 = 13, R14 = 14, R15 = 15, RIP = 16, REGISTERS = 17 };
-enum { ALL_REGISTERS = (1 << REGISTERS) - 1 };
-/* Those that a walk with kept rows needs. */
-enum { KEPT_REGISTERS = 1 << RBX | 1 << RBP | 1 << RSP | 1 << R12 | 1 << R13 | 1 << R14 | 1 << R15 | 1 << RIP };
 
 /* ---- memory.c: what may be read ---- */
 
@@ -48,7 +43,7 @@ struct cache;
 /* A cache that no other walk uses until it is given back; NULL if all are in use. */
 HIDDEN struct cache *dwcheck_unwind_claim(void);
 HIDDEN void dwcheck_unwind_give_back(struct cache *cache);
-HIDDEN dwcheck_rows *dwcheck_unwind_rows(struct cache *cache);
+HIDDEN dwcheck_dl_rows *dwcheck_unwind_rows(struct cache *cache);
 /* The slot of the module that has an address, which is loaded; or -1. */
 HIDDEN int dwcheck_unwind_slot(struct cache *cache, uint64_t address);
 /* The slots of modules that can't be unloaded, so that walks needn't confirm them. */
@@ -64,8 +59,8 @@ HIDDEN void dwcheck_unwind_flush(void);
 
 /* A frame: its registers, of which those are known whose bits are set; the address to look up, plus 1; how it was found. */
 struct frame {
-    uint64_t values[REGISTERS], key;
-    uint32_t known, guess, is_interrupted, is_last;
+    uint64_t values[REGISTERS], key, known;
+    uint32_t guess, is_interrupted, is_last;
     uint64_t signal_context; /* where the kernel has saved registers, for the last handler that the walk has left; or 0 */
 };
 
@@ -91,7 +86,7 @@ HIDDEN int dwcheck_unwind_step(struct cache *cache, struct frame *frame, struct 
 /* The same with the row of another address. */
 HIDDEN int dwcheck_unwind_step_by(struct cache *cache, struct frame *frame, struct memory *memory, uint64_t key);
 /* Writes the addresses of the frames from a place on, and returns their number. */
-HIDDEN int dwcheck_unwind_addresses(void **addresses, int size, const dwcheck_register_place *from);
+HIDDEN int dwcheck_unwind_addresses(void **addresses, int size, const dwcheck_dl_place *from);
 
 /* ---- by_cursor.c: steps of a cursor of dwcheck.h; guess.c: frames without a row; handler.c: signals ---- */
 
@@ -107,7 +102,6 @@ HIDDEN int dwcheck_unwind_end(struct frame *frame);
 /* ---- registers.c: frames of contexts, and where registers are ---- */
 
 HIDDEN void dwcheck_unwind_frame_of(struct frame *frame, const ucontext_t *context, bool is_exact);
-HIDDEN uint64_t *dwcheck_unwind_in_context(ucontext_t *context, int number);
 /* The places of the registers of a cursor's frame. Returns whether they could be found. */
 HIDDEN bool dwcheck_unwind_places(const struct cursor *cursor, struct place places[REGISTERS]);
 /* Writes a place as unw_get_save_loc does. */
@@ -148,7 +142,19 @@ struct unw_addr_space {
     struct kept_rows *kept;
 };
 
-/* ---- context.S ---- */
+/* ---- of each processor (x86_64/, aarch64/), registers.c ---- */
+
+HIDDEN uint64_t *dwcheck_unwind_in_context(ucontext_t *context, int number);
+/* The place of a frame, for walks with kept rows; and puts a frame where such a walk is, which keeps the registers of a place:
+   the others stay as they are. */
+HIDDEN dwcheck_dl_place dwcheck_unwind_place_of(const struct frame *frame);
+HIDDEN void dwcheck_unwind_go_to(struct frame *frame, const dwcheck_dl_place *place);
+/* Has a function called in each child of a fork, as long as this library is loaded. */
+HIDDEN void dwcheck_unwind_at_fork(void (*child)(void));
+/* Whether unw_is_signal_frame says so of a frame. */
+HIDDEN bool dwcheck_unwind_is_signal_frame(const struct frame *frame);
+
+/* ---- of each processor, context.S ---- */
 
 /* Continues with these registers, by DWARF's numbers. */
 HIDDEN _Noreturn void dwcheck_unwind_continue(const uint64_t registers[REGISTERS]);

@@ -11,6 +11,7 @@ out=$(mktemp -d)
 trap 'rm -rf "$out"' EXIT
 . "$top/tools/each_test.sh"
 version=$(sed -n 's/^version := //p' "$top/Makefile")
+libraries=usr/lib/aarch64-linux-gnu
 strict="-Wall -Wextra -pedantic -Werror -I$top/c/include"
 # Signatures of return addresses are computed as qemu likes, and not as the architecture does, which is slow.
 emulator="qemu-aarch64 -cpu max,pauth-impdef=on -L"
@@ -51,7 +52,7 @@ is_protected() { # LIBRARY: whether its note says that return addresses are sign
 # For libraries that the loader marks, each address to which an indirect jump leads begins with one of these.
 are_protected() {
     local library
-    for library in "$built/libdwcheck.so.$version" "$built/libdwcheck-dl.so.$version"; do
+    for library in "$built/libdwcheck.so.$version" "$built/libdwcheck-dl.so.$version" "$built"/unwind/*.so.8; do
         is_protected "$library" || return 1
     done
 }
@@ -116,10 +117,52 @@ in_place() { # look-ups in the C library's own section
 }
 
 rows() { # ROOT: rows of its libraries beside readelf's
-    local libraries=$1/usr/lib/aarch64-linux-gnu
+    local folder=$1/$libraries
     aarch64-linux-gnu-gcc -std=gnu11 -D_GNU_SOURCE $strict -O2 "$top/tests/arm64/rows.c" "$built/libdwcheck.a" -o "$out/rows" &&
-        "$top/tests/arm64/rows.py" "$libraries"/{libc.so.6,libstdc++.so.6,libcrypto.so.3} "$libraries/ld-linux-aarch64.so.1" -- \
+        "$top/tests/arm64/rows.py" "$folder"/{libc.so.6,libstdc++.so.6,libcrypto.so.3} "$folder/ld-linux-aarch64.so.1" -- \
             $emulator "$root" "$out/rows"
+}
+
+names_in() { # LIBRARY..: the names that they export
+    nm -D --defined-only "$@" | awk 'NF == 3 { print $3 }' | sort -u
+}
+
+# Each name that the two libraries of libunwind's export, but for one that programs find in the C library.
+unwind_names() {
+    local folder
+    for folder in "$root" "$newer"; do
+        names_in "$folder/$libraries"/libunwind.so.8 "$folder/$libraries"/libunwind-aarch64.so.8 | grep -vx backtrace > "$out/wanted"
+        [ "$(wc -l < "$out/wanted")" -gt 60 ] && [ -z "$(comm -13 <(names_in "$built"/unwind/*.so.8) "$out/wanted")" ] || return 1
+    done
+}
+
+# The headers of libunwind and ours have the sizes and places for which the libraries are compiled.
+unwind_layouts() {
+    local compile="aarch64-linux-gnu-gcc -std=gnu11 -c $top/c/tests/unwind_layout.c -o $out/layout.o"
+    $compile -DWITH_LIBUNWIND -idirafter "$root/usr/include/aarch64-linux-gnu" && $compile -I"$top/c/include"
+}
+
+unwind() { # PROGRAM FLAG..: builds a test of libunwind's calls, and runs it beside libunwind 1.6 and 1.8
+    local program=$1 folder
+    shift
+    aarch64-linux-gnu-gcc -std=gnu11 -D_GNU_SOURCE $strict -O2 -g "$@" "$top/c/tests/$program.c" "$built/unwind/libunwind.so.8" \
+        -Wl,-rpath,"$built/unwind" -Wl,-z,lazy -o "$out/$program" -pthread -ldl || return 1
+    for folder in ${roots:-"$root" "$newer"}; do
+        emulate "$folder" "$program" "$folder/$libraries/libunwind.so.8" || return 1
+    done
+}
+
+# libunwind 1.6 takes no signatures off return addresses.
+unwind_signed() {
+    local roots=$newer
+    unwind unwind -mbranch-protection=standard
+}
+
+# With pages of 64 KB. Of those the C library doesn't find the main thread's stack, since qemu's list of mappings is wrong then:
+# bench/arm64/vm.sh has a kernel with pages of 16 KB for the other tests.
+large_pages() { # COMMAND..
+    local emulator="qemu-aarch64 -p 65536 -cpu max,pauth-impdef=on -L"
+    "$@"
 }
 
 # The cases of the program dwcheck, all of them.
@@ -139,7 +182,7 @@ elf_program() {
         [ "$(grep -c '\.eh_frame: accepted' "$out/checked")" = 2 ]
 }
 
-"$top/tools/packages.sh" install_arm64 && "$top/tools/arm64_root.sh" "$newer" trixie libc6 libgcc-s1 libstdc++6 libssl3t64 || exit 1
+"$top/tools/packages.sh" install_arm64 && "$top/tools/arm64_root.sh" "$newer" trixie libc6 libgcc-s1 libstdc++6 libssl3t64 libunwind8 liblzma5 || exit 1
 (cd "$top" && make -s ARCH=aarch64 but_elf) || exit 1
 
 test_of "arm64: the shared libraries are marked as protected" are_protected
@@ -168,6 +211,13 @@ test_of "arm64: a stack whose rows are in .debug_frame" linked -fno-asynchronous
 test_of "arm64: the same with signed return addresses" linked -fno-asynchronous-unwind-tables -g -mbranch-protection=standard
 test_of "arm64: a stack over the shared libraries" shared
 test_of "arm64: the header says how much stack walks take" "$top/tools/stack_use.py" --aarch64
+test_of "arm64: types of libunwind have the same layout" unwind_layouts
+test_of "arm64: the libraries with libunwind's names export all of them" unwind_names
+test_of "arm64: frames by libunwind's calls are those of libunwind" unwind unwind
+test_of "arm64: the same with signed return addresses" unwind_signed
+test_of "arm64: libunwind's calls answer cursors and contexts of any bytes" unwind unwind_input
+test_of "arm64: walks from contexts of any registers, with pages of 64 KB" large_pages c_test dl_contexts
+test_of "arm64: stacks with pages of 64 KB, while libraries come and go" large_pages modules
 test_of "arm64: the cases of the program dwcheck" program
 test_of "arm64: dwcheck-elf checks programs" elf_program
 exit $status

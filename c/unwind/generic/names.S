@@ -1,8 +1,15 @@
-/* libunwind-x86_64.so.8: the names that programs use which haven't said UNW_LOCAL_ONLY. Each goes on to the call of the
-   local name in libunwind.so.8, which takes cursors and address spaces of other processes too. */
+/* libunwind-x86_64.so.8, or libunwind-aarch64.so.8: the names that programs use which haven't said UNW_LOCAL_ONLY. Each goes on
+   to the call of the local name in libunwind.so.8, which takes cursors and address spaces of other processes too. */
+#if defined(__aarch64__)
+#include "../aarch64/assembler.h"
+#define HAND_ON(name) FUNCTION(_Uaarch64_##name); BTI_C; adrp x16, :got:_ULaarch64_##name; \
+    ldr x16, [x16, :got_lo12:_ULaarch64_##name]; br x16; END(_Uaarch64_##name)
+#else
 #define HAND_ON(name) .globl _Ux86_64_##name; .type _Ux86_64_##name, @function; .p2align 4; \
     _Ux86_64_##name: .cfi_startproc; jmp *_ULx86_64_##name@GOTPCREL(%rip); .cfi_endproc; \
     .size _Ux86_64_##name, . - _Ux86_64_##name
+#define NOTES .section .note.GNU-stack, "", @progbits
+#endif
     .text
 HAND_ON(apply_reg_state)
 HAND_ON(create_addr_space)
@@ -33,4 +40,4 @@ HAND_ON(set_iterate_phdr_function)
 HAND_ON(set_reg)
 HAND_ON(step)
 
-    .section .note.GNU-stack, "", @progbits
+NOTES

@@ -1,0 +1,60 @@
+/* Frames that no row covers. Where an entry of a PLT, or a call of what is no code, has left everything as it was, the return
+   address is in x30, as libunwind supposes of all such frames. Else x29 leads to the caller's x29 and the return address.
+   unw_is_guess says of a frame that it was found so. */
+#include "../../dl/processor.h"
+#include "../unwind.h"
+
+static bool is_readable(const struct word_reader *memory, uint64_t address) {
+    uint64_t word;
+    return memory->read(memory->data, address & -sizeof word, &word);
+}
+
+/* Continues at a caller. */
+static int go_to(struct frame *frame, uint64_t address, uint64_t stack_pointer, uint32_t guess) {
+    frame->values[IP] = frame->key = address;
+    frame->values[SP] = stack_pointer;
+    frame->known &= ~CHANGED_BY_CALLS;
+    frame->guess = guess;
+    frame->is_interrupted = 0;
+    return 1;
+}
+
+/* The registers but for x30 are the caller's. `pushed` bytes are on the stack. */
+static int after_call(struct frame *frame, struct place *places, uint64_t pushed, uint32_t guess) {
+    if (!(frame->known >> LR & 1)) return -UNW_EUNSPEC;
+    const uint64_t address = dwcheck_dl_unsigned(frame->values[LR]);
+    if (!dwcheck_dl_follows_call(address)) return -UNW_ENOINFO;
+    if (places) places[IP] = places[LR], places[LR] = (struct place){0};
+    return go_to(frame, address, frame->values[SP] + pushed, guess);
+}
+
+/* Where the caller's stack pointer is can't be known. gcc keeps the two words at the bottom of a frame, so that x29 is the
+   stack pointer, and clang counts from x29 alone. So the caller's x29 is taken for both. */
+static int by_frame_pointer(struct frame *frame, struct place *places, const struct word_reader *memory) {
+    enum { FARTHEST = 0x4000 };
+    const uint64_t pointer = frame->values[FP];
+    uint64_t saved, link;
+    if (!(frame->known >> FP & 1) || pointer % sizeof saved != 0 || pointer < frame->values[SP] || pointer - frame->values[SP] > FARTHEST)
+        return dwcheck_unwind_end(frame);
+    if (!memory->read(memory->data, pointer, &saved) || !memory->read(memory->data, pointer + sizeof saved, &link))
+        return dwcheck_unwind_end(frame);
+    for (int i = 0; places && i < REGISTERS; i++) places[i] = (struct place){0};
+    if (places) {
+        places[FP] = (struct place){pointer, PLACE_MEMORY};
+        places[LR] = places[IP] = (struct place){pointer + sizeof saved, PLACE_MEMORY};
+    }
+    const uint64_t address = dwcheck_dl_unsigned(link), after = pointer + sizeof saved + sizeof link;
+    frame->values[FP] = saved;
+    frame->known = UINT64_C(1) << FP | UINT64_C(1) << SP | UINT64_C(1) << IP;
+    if (address == 0) return dwcheck_unwind_end(frame);
+    return go_to(frame, address, saved >= after ? saved : after, UNW_GUESS_FRAME_POINTER);
+}
+
+int dwcheck_unwind_guess(struct frame *frame, struct place *places, const struct word_reader *memory) {
+    const uint64_t address = frame->values[IP];
+    const bool has_code = is_readable(memory, address), is_exact = frame->key != address;
+    const int pushed = has_code ? dwcheck_dl_pushed_without_row(address) : -1;
+    if (pushed >= 0 && after_call(frame, places, (uint64_t)pushed, UNW_GUESS_PLT) > 0) return 1;
+    if ((!has_code || is_exact) && after_call(frame, places, 0, UNW_GUESS_CALL) > 0) return 1;
+    return by_frame_pointer(frame, places, memory);
+}
