@@ -7,6 +7,7 @@
 
 mod common;
 
+mod arm64_kept;
 mod commands;
 mod compare;
 mod containers;

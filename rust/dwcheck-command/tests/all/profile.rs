@@ -40,6 +40,23 @@ fn the_lines_are_those_of_perf() {
     }
 }
 
+/// A recording of Linux for arm64: bench/arm64/kept.c, whose return addresses are signed. perf shows when samples were taken
+/// and where, but takes no signature off: that the other frames are these is known from the program.
+#[test]
+fn signed_return_addresses_of_a_recording_of_arm64_are_followed() {
+    let (folder, by_perf) = (Folder::new("profile-arm64"), script("arm64.script"));
+    let ran = profile(&folder, "arm64.perf", &["--no-inline"]);
+    let stack = format!("kept;_start;main_of;{}works", "works;".repeat(8));
+    assert_eq!(ran.out, format!("{} {}\n", stack, weight(&by_perf, "cpu-clock:u")));
+    let innermost = |text: &str| {
+        let samples = text.split("\n\n").filter(|sample| !sample.trim().is_empty());
+        samples.map(|sample| sample.trim().lines().take(2).collect::<Vec<_>>().join("\n")).collect::<Vec<_>>()
+    };
+    let ran = profile(&folder, "arm64.perf", &["--format", "script", "--no-inline"]);
+    assert_eq!(innermost(&ran.out), innermost(&by_perf));
+    assert!(innermost(&by_perf).len() > 3, "{}", by_perf);
+}
+
 /// perf wrote a file for each processor, and the program was moved from one to another.
 #[test]
 fn the_lines_of_a_folder_are_those_of_perf() {

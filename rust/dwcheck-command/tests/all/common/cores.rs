@@ -40,8 +40,13 @@ pub fn stop(out: &str) -> &str {
 
 /// The addresses of the frames of the core file `core` that gdb finds by unwinding.
 pub fn by_gdb(folder: &Folder, program: &str) -> Vec<String> {
+    by_gdb_of("gdb", folder, program)
+}
+
+/// The same by a gdb of this name, for core files of other machines.
+pub fn by_gdb_of(gdb: &str, folder: &Folder, program: &str) -> Vec<String> {
     folder.write("frames.gdb", FRAMES);
-    let shown = folder.run(&format!("gdb --batch -x frames.gdb {} core | sed -n 's/^frame //p'", program));
+    let shown = folder.run(&format!("{} --batch -x frames.gdb {} core | sed -n 's/^frame //p'", gdb, program));
     shown.lines().map(str::to_string).collect()
 }
 
