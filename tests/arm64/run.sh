@@ -132,7 +132,7 @@ unwind_names() {
     local folder
     for folder in "$root" "$newer"; do
         names_in "$folder/$libraries"/libunwind.so.8 "$folder/$libraries"/libunwind-aarch64.so.8 | grep -vx backtrace > "$out/wanted"
-        [ "$(wc -l < "$out/wanted")" -gt 60 ] && [ -z "$(comm -13 <(names_in "$built"/unwind/*.so.8) "$out/wanted")" ] || return 1
+        [ "$(wc -l < "$out/wanted")" -gt 50 ] && [ -z "$(comm -13 <(names_in "$built"/unwind/*.so.8) "$out/wanted")" ] || return 1
     done
 }
 
