@@ -57,6 +57,8 @@ static void step(void *data) {
     const dwcheck_header header = dwcheck_dl_header_of(step->module);
     const dwcheck_state state = dwcheck_dl_state_of(step->stack);
     step->status = dwcheck_step_in(&section, &header, step->cursor, &state, step->frame, &fault);
+    /* Also where a row doesn't say that the return address is signed, as in walks by kept rows. */
+    if (step->status == DWCHECK_DONE) step->cursor->address = dwcheck_dl_unsigned(step->cursor->address);
 }
 
 /* Whether the walk is at the frame that a signal has interrupted, all of whose registers are known. */

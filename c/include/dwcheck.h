@@ -169,7 +169,8 @@ enum { DWCHECK_DEBUG_FRAME = 0, DWCHECK_EH_FRAME = 1, DWCHECK_EH_FRAME_AARCH64 =
      for each expression and its length. A compiler's section takes some 1.5 times its length, a hostile one 700 times
      or more. NO_ROOM may come although the table would fit, since rows share their rules, but not if `room` is at
      least 80, plus 80 for each FDE and each row, plus 16 for each register's rule in a row, plus 24 for each
-     expression and its length. `room` doesn't bound the memory that checking and compiling use. */
+     expression and its length. `room` doesn't bound the memory that checking and compiling use, nor the 16 bytes for
+     each stretch of code in which return addresses are signed (aarch64). */
 typedef struct dwcheck_module {
     const uint8_t *frame; size_t frame_length;
     uint64_t load_address, first, last, cookie; size_t room;
@@ -306,7 +307,8 @@ typedef struct dwcheck_block { uint64_t base; const uint8_t *bytes; size_t lengt
    row gives no rule: in the caller, a register in `kept` has the value that it has now, the stack pointer is the CFA,
    and any other register is undefined. The ABI names no register twice. `signed_bits` are the bits of a signed return
    address that have its signature (aarch64: the mask for code in NT_ARM_PAC_MASK). Walks take them off where the rows
-   say that the return address is signed (dwcheck_is_signed), and nowhere else. */
+   say that the return address is signed (dwcheck_is_signed), and nowhere else: so never in modules of another kind than
+   DWCHECK_EH_FRAME_AARCH64, whose rows can't say it. */
 typedef struct dwcheck_state {
     const uint64_t *contents; size_t contents_length;
     const uint8_t *known; size_t known_length;

@@ -620,6 +620,32 @@ static void signed_addresses(void) {
     dwcheck_process_close(&p);
 }
 
+/* The same section with a byte changed: another code, one in the CIE's program, none that remembers, and as for other
+   processors. `where` is NULL if it is refused, for a fault of this number at this offset. */
+static void signed_with(size_t at, uint8_t byte, uint32_t kind, const char *where, uint32_t number, uint64_t offset) {
+    uint8_t changed[sizeof eh_signed];
+    dwcheck_process p = DWCHECK_CLOSED;
+    dwcheck_module m = signed_module();
+    memcpy(changed, eh_signed, sizeof changed);
+    changed[at] = byte;
+    m.frame = changed; m.kind = kind;
+    IS(add_module(&p, m), where ? DWCHECK_DONE : DWCHECK_REFUSED);
+    if (!where) { IS(fault.number, number); IS(fault.offset, offset); }
+    for (uint64_t i = 0; where && i < 0x20; i += 4) {
+        uint32_t is_signed = 9;
+        IS(dwcheck_is_signed(&p, 0x21000 + i, &is_signed), DWCHECK_DONE); IS(is_signed, (uint32_t)(where[i / 4] - '0'));
+    }
+    dwcheck_process_close(&p);
+}
+
+static void other_signatures(void) {
+    signed_with(42, 0x2c, DWCHECK_EH_FRAME_AARCH64, "01101000", 0, 0);
+    signed_with(22, 0x2d, DWCHECK_EH_FRAME_AARCH64, "10010111", 0, 0);
+    signed_with(44, 0, DWCHECK_EH_FRAME_AARCH64, NULL, 16, 48);
+    signed_with(48, 0, DWCHECK_EH_FRAME_AARCH64, NULL, 17, 52);
+    signed_with(51, 0, DWCHECK_EH_FRAME, NULL, 12, 42);
+}
+
 /* Return addresses whose bits 48 to 54 have a signature, as those of aarch64 may. The first one is signed by its row, at
    0x21004, and the second one isn't, at 0x2100f. */
 static void signed_walks(size_t its_registers) {
@@ -650,7 +676,8 @@ static void signed_walks(size_t its_registers) {
         }
         for (int i = 1; i < 3; i++) {
             IS(dwcheck_cursor_step(&p, &cursor, &s, &frames[7]), DWCHECK_DONE); IS(cursor.address, frames[i].address);
-            IS(dwcheck_step_in(&module, &none, &copy, &s, &frames[7], &fault), DWCHECK_DONE); IS(copy.address, frames[i].address);
+            IS(dwcheck_step_in(&module, &none, &copy, &s, &frames[7], &fault), DWCHECK_DONE);
+            IS(copy.address, frames[i].address);
         }
     }
     dwcheck_process_close(&p);
@@ -1245,6 +1272,7 @@ int main(void) {
     signal_walks(17);
     signal_walks(97);
     signed_addresses();
+    other_signatures();
     signed_walks(17);
     signed_walks(97);
     many_modules();

@@ -1,11 +1,12 @@
 #!/usr/bin/env python3
 """Compares the rows of libraries for arm64 with those that readelf prints, and where return addresses are signed.
 
-    tests/arm64/rows.py LIBRARY.. -- COMMAND..
+    tests/arm64/rows.py [--signed] LIBRARY.. -- COMMAND..
 
 COMMAND is tests/arm64/rows.c as a program, with what runs it. It is given a library and, on standard input, the first
 address of each of readelf's rows. Prints a line for each library, and for the first rows that differ. The status is
-1 if one does, or if a library has fewer than 1000 rows.
+1 if one does, or if a library has fewer than 1000 rows, or with --signed fewer than 1000 in which the return address
+is signed.
 """
 import re
 import subprocess
@@ -104,7 +105,7 @@ def rows_of_command(command, library, addresses):
     return rows, signed
 
 
-def compare(command, library):
+def compare(command, library, least_signed):
     """Prints how many rows of a library are readelf's. Returns whether all are, and there are enough."""
     wanted = rows_of_readelf(library)
     found, signed = rows_of_command(command, library, wanted)
@@ -115,14 +116,18 @@ def compare(command, library):
     for address in unlike[:SHOWN]:
         print(f"{address:#x}: {'only here' if address in signed else 'only by readelf'} the return address is signed")
     print(f"{library}: {len(wanted)} rows, {len(wrong)} differ; signed in {len(signed)}, otherwise in {len(unlike)}")
-    return not wrong and not unlike and len(wanted) >= LEAST
+    return not wrong and not unlike and len(wanted) >= LEAST and len(signed) >= least_signed
 
 
 def main():
     """Compares all libraries."""
     at = sys.argv.index("--")
     libraries, command = sys.argv[1:at], sys.argv[at + 1:]
-    return int(not all([compare(command, library) for library in libraries]))
+    least_signed = 0
+    if libraries[0] == "--signed":
+        least_signed = LEAST
+        del libraries[0]
+    return int(not all([compare(command, library, least_signed) for library in libraries]))
 
 
 if __name__ == "__main__":

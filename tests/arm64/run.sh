@@ -116,10 +116,11 @@ in_place() { # look-ups in the C library's own section
         emulate "$root" in_place "$root/usr/lib/aarch64-linux-gnu/libc.so.6" 16
 }
 
-rows() { # ROOT: rows of its libraries beside readelf's
+rows() { # ROOT [--signed]: rows of its libraries beside readelf's
     local folder=$1/$libraries
+    shift
     aarch64-linux-gnu-gcc -std=gnu11 -D_GNU_SOURCE $strict -O2 "$top/tests/arm64/rows.c" "$built/libdwcheck.a" -o "$out/rows" &&
-        "$top/tests/arm64/rows.py" "$folder"/{libc.so.6,libstdc++.so.6,libcrypto.so.3} "$folder/ld-linux-aarch64.so.1" -- \
+        "$top/tests/arm64/rows.py" "$@" "$folder"/{libc.so.6,libstdc++.so.6,libcrypto.so.3} "$folder/ld-linux-aarch64.so.1" -- \
             $emulator "$root" "$out/rows"
 }
 
@@ -195,7 +196,7 @@ test_of "arm64: walks with a cache" c_test cache -D_GNU_SOURCE
 test_of "arm64: calls that read one process at once" c_test readers -D_GNU_SOURCE -DROUNDS=100
 test_of "arm64: look-ups in place" in_place
 test_of "arm64: rows of Debian 12's libraries are readelf's" rows "$root"
-test_of "arm64: rows of Debian 13's libraries, which sign return addresses, are readelf's" rows "$newer"
+test_of "arm64: rows of Debian 13's libraries, which sign return addresses, are readelf's" rows "$newer" --signed
 test_of "arm64: stacks of dwcheck-dl are glibc's, with nothing called before" in_both dl
 test_of "arm64: the same with signed return addresses" in_both dl -mbranch-protection=standard
 test_of "arm64: stacks with signed return addresses, also where one is in its register" in_both dl_signed -mbranch-protection=standard

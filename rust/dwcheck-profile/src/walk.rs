@@ -380,9 +380,23 @@ impl<'w> Walker<'w> {
 /// Cursors have no registers with higher numbers.
 const MOST_REGISTERS: u16 = 96;
 
-/// Steps from a frame that is at this address as linked. What the innermost one has popped is read as if the stack still
-/// had it.
+/// Steps from a frame that is at this address as linked. The library takes a signature off the return address only where
+/// rows of `.eh_frame` say that there is one. Those of `.debug_frame` can't say it, and the bits are 0 in each address of
+/// code, so they are taken off here.
 fn step_to_caller(
+    process: &Process,
+    linked: u64,
+    cursor: &mut Cursor,
+    state: &State<'_>,
+    task: &Task<'_>,
+) -> Option<Stepped> {
+    let stepped = step_with_popped(process, linked, cursor, state, task)?;
+    cursor.set_address(cursor.address() & !task.signed_bits());
+    Some(stepped)
+}
+
+/// Steps from a frame. What the innermost one has popped is read as if the stack still had it.
+fn step_with_popped(
     process: &Process,
     linked: u64,
     cursor: &mut Cursor,

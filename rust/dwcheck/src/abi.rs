@@ -28,9 +28,11 @@ pub struct Abi<'a> {
     pub kept: &'a [u16],
     /// The stack pointer, which must not be in `kept`. `None` if the ABI says nothing about it.
     pub stack_pointer: Option<u16>,
-    /// The bits of a return address that may have its signature, where return addresses are signed
-    /// (aarch64). They are 0 in each address of code, and walks leave them out of callers' addresses.
-    /// 0 if no address is signed.
+    /// The bits of a signed return address that have its signature (aarch64). Walks take them off
+    /// where the rows say that the return address is signed ([`Process::is_signed`]), and nowhere
+    /// else. 0 if no address is signed.
+    ///
+    /// [`Process::is_signed`]: crate::Process::is_signed
     pub signed_bits: u64,
 }
 
@@ -45,7 +47,7 @@ impl<'a> Abi<'a> {
         }
     }
 
-    /// The same ABI for a process that signs return addresses. `bits` are those that may have the
+    /// The same ABI for a process that signs return addresses. `bits` are those that have the
     /// signature: on Linux, the mask for code in `NT_ARM_PAC_MASK`, a note of a core file and a set of
     /// registers of a process.
     pub const fn signed(self, bits: u64) -> Abi<'a> {

@@ -15,8 +15,9 @@ impl Process {
     /// The caller of the frame at an address, by the row that [`row`](Process::row) gives.
     ///
     /// The result is `None` if there is no row. To find the caller's own caller, call this again with
-    /// [`Caller::known`] as the registers, and with the return address without its signed bits, minus
-    /// one unless this address [is a signal frame's](Process::is_signal_frame); or use [`backtrace`].
+    /// [`Caller::known`] as the registers, and with the return address: without its signed bits if
+    /// [it is signed](Process::is_signed) at this address, and minus one unless this address [is a
+    /// signal frame's](Process::is_signal_frame); or use [`backtrace`].
     /// Memory is allocated only for the `Vec` of registers in the returned [`Caller`].
     ///
     /// # Errors
