@@ -107,7 +107,11 @@ impl Iterator for Steps<'_> {
         if let Some(caller) = &caller {
             if let Answer::Value(up) = caller.return_address {
                 let is_signed = looked_up.map_or(false, |a| self.process.is_signed(a));
-                let up = if is_signed { up & !self.abi.signed_bits } else { up };
+                let up = if is_signed {
+                    up & !self.abi.signed_bits
+                } else {
+                    up
+                };
                 let is_signal = looked_up.map_or(false, |a| self.process.is_signal_frame(a));
                 self.registers = caller.known();
                 self.next = Some((
