@@ -4,9 +4,10 @@
     bench/elf/profile_page.py DWCHECK_ELF [--screenshot FILE]
 
 The page is that of a recording of spin.c (rust/dwcheck-command/tests/recordings). A click on a function has
-to give it the whole width, a search has to mark what it names, `inverted` has to put what ran at the top,
-and a time range has to leave out the samples before and after it. The address that the page has then is opened
-again, and has to show the same. Of two recordings that are compared, what only the old one has has to be blue.
+to give it the whole width and to name its callers, and a click on one of these has to zoom to it; a search has
+to mark what it names, `inverted` has to put what ran at the top, and a time range has to leave out the samples
+before and after it. The address that the page has then is opened again, and has to show the same. Of two
+recordings that are compared, what only the old one has has to be blue.
 Needs chromium. The last line is `ok`, or the exit status is 1.
 """
 import argparse
@@ -40,6 +41,9 @@ said.title = document.title;
 const whole = shown.total[0];
 click("twice");
 said.zoomed = boxOf("twice")[2] === at("stacks").clientWidth;
+said.beside = at("beside").textContent;
+[...at("beside").querySelectorAll("button")].find(button => button.textContent.startsWith("middle ")).click();
+said.caller = label(view.focus);
 set("search", "leaf", "input");
 said.found = at("found").textContent;
 said.marked = pixel("leaf"); said.plain = pixel("twice");
@@ -101,6 +105,8 @@ def main():
         "functions": said["first"] == ["all", "_start", "main", "middle", "twice", "leaf"],
         "title": said["title"].endswith("./spin"),
         "a click zooms": said["zoomed"],
+        "callers and callees": said["beside"].replace("  ", " ") == "twice called by: middle 100.00% calls: leaf 100.00%",
+        "a click on a caller": said["caller"] == "middle",
         "the tip": said["tip"].startswith("twice\n/home/user/session/spin, inlined\n"),
         "a search finds": said["found"] == "found in 100.00%",
         "a search marks": said["marked"] == [0xd9, 0x4f, 0xc6] and said["plain"] != said["marked"],
