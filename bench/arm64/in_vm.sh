@@ -33,7 +33,7 @@ gdb_of() { # WORD..: what gdb prints, and nothing is asked
 
 # The frames in the file `frames` are those that gdb has printed, and at least LEAST.
 same_as_gdb() { # LEAST
-    sed -n 's/^\(frame \|#\)[0-9]* \(0x[0-9a-f]*\).*/\2/p' frames > ours
+    sed -n '/ tail call$/d; s/^\(frame \|#\)[0-9]* \(0x[0-9a-f]*\).*/\2/p' frames > ours
     sed -n 's/^gdb \(0x[0-9a-f]*\)$/\1/p' gdb > theirs
     diff ours theirs && [ "$(wc -l < ours)" -ge "$1" ] && echo "$(wc -l < ours) frames are gdb's"
 }

@@ -90,7 +90,7 @@ rm -rf "$folder/test" && mkdir -p "$folder/test"
 if [ -n "${KEEP:-}" ]; then compile_kept; else compile; fi
 pack > "$folder/files"
 timeout $seconds qemu-system-aarch64 -M virt -cpu max,pauth-impdef=on,sve=${SVE:-off} -m 3G -smp 2 -nographic -no-reboot -nic none \
-    -kernel "$kernel"/boot/vmlinuz-* -initrd "$folder/files" -append "console=ttyAMA0 panic=-1 quiet" < /dev/null | sed -u 's/\r//g' | tee "$folder/log" | grep -v '^KEEP '
+    -kernel "$kernel"/boot/vmlinuz-* -initrd "$folder/files" -append "console=ttyAMA0 panic=-1 quiet" < /dev/null | sed -u 's/\r//g' | tee "$folder/log" | grep --line-buffered -v '^KEEP '
 if [ -n "${KEEP:-}" ]; then
     for name in arm64.core arm64.perf arm64.script; do take_kept $name; done
     cp "$folder/test/kept" "$KEEP/"
