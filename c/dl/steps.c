@@ -67,8 +67,8 @@ static bool is_interrupted(const struct dwcheck_dl_walk *walk) {
            && dwcheck_dl_address_of_context(walk->interrupted) == walk->place.address;
 }
 
-/* Places the cursor at the frame, with the registers that are known: those of a place; and if the frame was interrupted,
-   all of them: the CFA of code that probes a large frame's pages is a scratch register plus an offset. */
+/* Places the cursor at the frame, with the registers that are known: those of a place; and if the frame was
+   interrupted, all of them: the CFA of code that probes a large frame's pages is a scratch register plus an offset. */
 static uint32_t place_cursor(const struct dwcheck_dl_walk *walk, dwcheck_cursor *cursor) {
     const uint32_t status = dwcheck_dl_cursor_at_place(cursor, &walk->place);
     if (status == DWCHECK_DONE && is_interrupted(walk)) dwcheck_dl_know_context(cursor, walk->interrupted);
@@ -145,15 +145,15 @@ static bool has_row(struct dwcheck_dl_walk *walk, uint64_t return_address) {
     return slot >= 0 && dwcheck_dl_fill(walk->cache, slot, return_address - 1, dwcheck_dl_room_of(walk)) == DWCHECK_DONE;
 }
 
-/* Where no row says who the caller is, this library has a policy of its own: without being asked, it guesses only
-   after a call that has done nothing else. The tools in Rust (rust/dwcheck-elf/src/process/without_row.rs) also guess by frame pointers and
-   by return addresses of code without rows, and mark each such frame. Addresses alone have no mark, so users would
-   take a guess for a frame. */
+/* Where no row says who the caller is, this library has a policy of its own: without being asked, it guesses only after
+   a call that has done nothing else. The tools in Rust (rust/dwcheck-elf/src/process/without_row.rs) also guess by
+   frame pointers and by return addresses of code without rows, and mark each such frame. Addresses alone have no mark,
+   so users would take a guess for a frame. */
 
-/* Whether the thread was interrupted where a call has done nothing but to say where it returns to. Then goes back to the
-   frame that made the call. It may have called what is no function: a null pointer, or any other address where nothing
-   can be executed; or code without a frame. In place of a call there may have been a return to a wrong address: so the
-   address must follow a call, and be one of code with rows, unless it was a null pointer. */
+/* Whether the thread was interrupted where a call has done nothing but to say where it returns to. Then goes back to
+   the frame that made the call. It may have called what is no function: a null pointer, or any other address where
+   nothing can be executed; or code without a frame. In place of a call there may have been a return to a wrong address:
+   so the address must follow a call, and be one of code with rows, unless it was a null pointer. */
 static bool leave_call(struct dwcheck_dl_walk *walk) {
     const bool is_null = walk->place.address < PAGE;
     if (!is_interrupted(walk)) return false;

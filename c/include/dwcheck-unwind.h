@@ -96,8 +96,8 @@ typedef enum {
     UNW_ENOINFO       /* nothing is known of the address */
 } unw_error_t;
 
-/* Registers by their DWARF numbers. On aarch64 libunwind takes x30 for the instruction pointer: unw_get_reg gives the frame's
-   address for it, and also for pc. */
+/* Registers by their DWARF numbers. On aarch64 libunwind takes x30 for the instruction pointer: unw_get_reg gives the
+   frame's address for it, and also for pc. */
 #if defined(__aarch64__)
 typedef enum {
     UNW_AARCH64_X0, UNW_AARCH64_X1, UNW_AARCH64_X2, UNW_AARCH64_X3, UNW_AARCH64_X4, UNW_AARCH64_X5, UNW_AARCH64_X6,
@@ -318,7 +318,8 @@ int unw_backtrace(void **addresses, int size);
 int unw_backtrace2(void **addresses, int size, unw_context_t *context, int flag);
 
 /* ---- other processes --------------------------------------------------------------------------------------------- */
-/* The accessors of a process that ptrace has stopped, in libunwind-ptrace.so.0; `context` is what _UPT_create returns. */
+/* The accessors of a process that ptrace has stopped, in libunwind-ptrace.so.0; `context` is what _UPT_create
+   returns. */
 void *_UPT_create(int process);
 void _UPT_destroy(void *context);
 int _UPT_find_proc_info(unw_addr_space_t space, unw_word_t address, unw_proc_info_t *info, int need_unwind_info, void *context);

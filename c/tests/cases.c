@@ -517,7 +517,8 @@ static void module_checks(void) {
     IS(dwcheck_module_check(&m, &counts, &fault), DWCHECK_DONE); IS(counts.cies, 0);
 }
 
-/* The FDE of `eh` is left out once it has an instruction that doesn't exist, and its fault is listed if there is room. */
+/* The FDE of `eh` is left out once it has an instruction that doesn't exist, and its fault is listed if there is
+   room. */
 static void left_out(void) {
     uint8_t broken[sizeof eh];
     memcpy(broken, eh, sizeof eh);
@@ -646,8 +647,8 @@ static void other_signatures(void) {
     signed_with(51, 0, DWCHECK_EH_FRAME, NULL, 12, 42);
 }
 
-/* Return addresses whose bits 48 to 54 have a signature, as those of aarch64 may. The first one is signed by its row, at
-   0x21004, and the second one isn't, at 0x2100f. */
+/* Return addresses whose bits 48 to 54 have a signature, as those of aarch64 may. The first one is signed by its row,
+   at 0x21004, and the second one isn't, at 0x2100f. */
 static void signed_walks(size_t its_registers) {
     static const uint64_t frame_words[2] = {0x7f000000021010, 0x12000000021020};
     uint64_t its_contents[97] = {0};

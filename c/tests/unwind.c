@@ -1,6 +1,6 @@
-/* Tests of libunwind's calls over the library, in a program that has both: at each frame of its stacks, registers, places
-   where they are saved, names and functions are those of libunwind. Prints a line for each failure, and at the end a line
-   with counts.
+/* Tests of libunwind's calls over the library, in a program that has both: at each frame of its stacks, registers,
+   places where they are saved, names and functions are those of libunwind. Prints a line for each failure, and at the
+   end a line with counts.
    usage: unwind LIBUNWIND     the path of libunwind's own libunwind.so.8 */
 #include "unwind_processor.h"
 

@@ -1,5 +1,6 @@
-/* Tests libunwind's calls with input that can't be right: cursors of zeros and of random bytes, null pointers, contexts of
-   random registers, of which each gets an answer. Prints a line for each failure, and at the end a line with counts. */
+/* Tests libunwind's calls with input that can't be right: cursors of zeros and of random bytes, null pointers, contexts
+   of random registers, of which each gets an answer. Prints a line for each failure, and at the end a line with
+   counts. */
 #include "unwind_processor.h"
 
 #include <stdio.h>

@@ -76,7 +76,8 @@ static inline void come_to(unw_context_t *context, unw_word_t entry, unw_word_t 
 }
 enum { PUSHED_BY_CALL = 0 };
 
-/* sub sp, sp, #32; str x30, [sp]; blr x0; ldr x30, [sp]; add sp, sp, #32; ret. Return address in x30, the CFA is sp at first. */
+/* sub sp, sp, #32; str x30, [sp]; blr x0; ldr x30, [sp]; add sp, sp, #32; ret. Return address in x30, the CFA is sp at
+   first. */
 static const uint8_t made_code[] = {0xff, 0x83, 0x00, 0xd1, 0xfe, 0x03, 0x00, 0xf9, 0x00, 0x00, 0x3f, 0xd6,
                                     0xfe, 0x03, 0x40, 0xf9, 0xff, 0x83, 0x00, 0x91, 0xc0, 0x03, 0x5f, 0xd6};
 static const uint8_t made_cie[] = {20, 0, 0, 0, 0, 0, 0, 0, 1, 'z', 'R', 0, 1, 0x78, 30, 1, 0x1b, 12, 31, 0, 0, 0, 0, 0};

@@ -1,5 +1,5 @@
-/* What libunwind's own libraries for ptrace and core files import, and perf where it is built for .debug_frame: the names, so
-   that such a program starts. Each call answers that there is no information. */
+/* What libunwind's own libraries for ptrace and core files import, and perf where it is built for .debug_frame: the
+   names, so that such a program starts. Each call answers that there is no information. */
 #include "unwind.h"
 
 #include <sys/types.h>

@@ -1,5 +1,6 @@
-/* Steps of a cursor of dwcheck.h, which knows all registers and every kind of row: for rows that aren't kept, for memory
-   that has to be asked for, and to find where registers are saved. They need much stack, so they run on a cache's own. */
+/* Steps of a cursor of dwcheck.h, which knows all registers and every kind of row: for rows that aren't kept, for
+   memory that has to be asked for, and to find where registers are saved. They need much stack, so they run on a
+   cache's own. */
 #include "../dl/processor.h"
 #include "unwind.h"
 
@@ -115,8 +116,8 @@ static bool has_lost_register(const struct step *step) {
     return false;
 }
 
-/* Whether a step might find more with more memory: then there is more. On aarch64 registers may be saved above the return
-   address. */
+/* Whether a step might find more with more memory: then there is more. On aarch64 registers may be saved above the
+   return address. */
 static bool gets_memory(const struct step *step, struct memory *memory) {
     const uint32_t stage = step->cursor.stage;
     const bool is_short = DWCHECK_DL_SAVES_BELOW && stage <= DWCHECK_CURSOR_CALLER && has_lost_register(step);

@@ -1,5 +1,5 @@
-/* The calls of libunwind, under the names that its header gives to local ones. A cursor of another process, or such an address
-   space, is passed on (remote/). */
+/* The calls of libunwind, under the names that its header gives to local ones. A cursor of another process, or such an
+   address space, is passed on (remote/). */
 #include "layout.h"
 #include "remote/remote.h"
 #include "unwind.h"
@@ -311,7 +311,8 @@ static struct unw_addr_space local = {
     .policy = UNW_CACHE_GLOBAL};
 unw_addr_space_t unw_local_addr_space = &local;
 
-/* Of the accessors, libunwind 1.6 has those before get_elf_filename, and a program that was compiled for it passes no more. */
+/* Of the accessors, libunwind 1.6 has those before get_elf_filename, and a program that was compiled for it passes no
+   more. */
 unw_addr_space_t unw_create_addr_space(unw_accessors_t *accessors, int byte_order) {
     if (!accessors || (byte_order != 0 && byte_order != LITTLE_ENDIAN)) return NULL;
     unw_addr_space_t space = calloc(1, sizeof *space);

@@ -1,7 +1,7 @@
-/* Frames of signals. The C library's row for the code to which handlers return says by an expression for each register where
-   the kernel has saved it. To evaluate these takes longer than many frames, so this code is known by its bytes, and the
-   registers are taken from the kernel's context, to which the stack pointer leads. On aarch64 it is in the kernel's vDSO, for
-   which there are no rows. */
+/* Frames of signals. The C library's row for the code to which handlers return says by an expression for each register
+   where the kernel has saved it. To evaluate these takes longer than many frames, so this code is known by its bytes,
+   and the registers are taken from the kernel's context, to which the stack pointer leads. On aarch64 it is in the
+   kernel's vDSO, for which there are no rows. */
 #include "../dl/walk.h"
 #include "unwind.h"
 

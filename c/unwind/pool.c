@@ -1,6 +1,6 @@
-/* Caches of rows, from a fixed pool: a walk claims one, so no lock is held, and a signal handler that interrupts the walk
-   gets another one. The pool is in the library's own memory, so nothing is allocated, and a page that isn't used costs
-   nothing. Each cache has a stack for the calls that need much of it, since a handler's may be small. */
+/* Caches of rows, from a fixed pool: a walk claims one, so no lock is held, and a signal handler that interrupts the
+   walk gets another one. The pool is in the library's own memory, so nothing is allocated, and a page that isn't used
+   costs nothing. Each cache has a stack for the calls that need much of it, since a handler's may be small. */
 #include "../dl/prepared.h"
 #include "unwind.h"
 
@@ -106,8 +106,8 @@ static int slot_for(const struct cache *cache, const struct dwcheck_dl_object *o
     return unused < 0 ? (int)home : unused;
 }
 
-/* Whether an object is the module of a slot. It is what dwcheck_dl_is_same says, which takes a checksum of each build id;
-   comparing the usual one with its copy takes less. */
+/* Whether an object is the module of a slot. It is what dwcheck_dl_is_same says, which takes a checksum of each build
+   id; comparing the usual one with its copy takes less. */
 static bool is_same(const struct slot *slot, const struct dwcheck_dl_object *object) {
     const struct dwcheck_dl_module *module = &slot->module;
     if (module->layout != 0 || module->id_length != ID || object->map == NULL) return dwcheck_dl_is_same(module, object);

@@ -1,5 +1,5 @@
-/* What differs between the processors that libunwind's calls are for: the numbers of registers, and what the files of x86_64/
-   and aarch64/ have. */
+/* What differs between the processors that libunwind's calls are for: the numbers of registers, and what the files of
+   x86_64/ and aarch64/ have. */
 #ifndef DWCHECK_UNWIND_PROCESSOR_H
 #define DWCHECK_UNWIND_PROCESSOR_H
 
@@ -8,11 +8,11 @@
 #include <stdbool.h>
 #include <stddef.h>
 
-/* Registers by their DWARF numbers, which are libunwind's too. IP is that of a frame's address, and SAVED_CONTEXT how far above
-   the stack pointer of the code to which handlers return the kernel's context lies, of which walks read CONTEXT_LENGTH
-   bytes. ROW_REGISTERS are those that a row may restore besides the address, and PLACED_REGISTERS those whose places
-   unw_get_save_loc says. A walk with kept rows needs the KEPT_REGISTERS, and in a frame that has made a call, those that are
-   CHANGED_BY_CALLS aren't the frame's. */
+/* Registers by their DWARF numbers, which are libunwind's too. IP is that of a frame's address, and SAVED_CONTEXT how
+   far above the stack pointer of the code to which handlers return the kernel's context lies, of which walks read
+   CONTEXT_LENGTH bytes. ROW_REGISTERS are those that a row may restore besides the address, and PLACED_REGISTERS those
+   whose places unw_get_save_loc says. A walk with kept rows needs the KEPT_REGISTERS, and in a frame that has made a
+   call, those that are CHANGED_BY_CALLS aren't the frame's. */
 #if defined(__aarch64__)
 enum { X0 = 0, FIRST_KEPT = 19, FP = 29, LR = 30, SP = 31, IP = 32, PSTATE = 33, REGISTERS = 34, ROW_REGISTERS = 32 };
 enum { SAVED_CONTEXT = 128, CONTEXT_LENGTH = offsetof(unw_context_t, uc_mcontext.__reserved) };
@@ -34,8 +34,8 @@ enum { SAVED_CONTEXT = 0, CONTEXT_LENGTH = offsetof(ucontext_t, uc_mcontext) + s
 static inline int register_of(int number) { return number == LR ? IP : number; }
 /* Whether a landing pad gets an argument in a register. */
 static inline bool is_argument(int number) { return number >= X0 && number < X0 + UNW_TDEP_NUM_EH_REGS; }
-/* Whether an address without an FDE is a function. On x86-64 some functions where a stack begins have none, so libunwind gives
-   them one address. */
+/* Whether an address without an FDE is a function. On x86-64 some functions where a stack begins have none, so
+   libunwind gives them one address. */
 enum { IS_FUNCTION_WITHOUT_ROW = 0 };
 #else
 #define PLACED_REGISTERS KEPT_REGISTERS

@@ -7,8 +7,8 @@ int dwcheck_unwind_end(struct frame *frame) {
     return 0;
 }
 
-/* What a step with kept rows comes to, besides what unw_step returns: another way has to be taken. BY_ROW says that there is
-   a row. */
+/* What a step with kept rows comes to, besides what unw_step returns: another way has to be taken. BY_ROW says that
+   there is a row. */
 enum { BY_CURSOR = 2, BY_ROW = 3, BY_GUESS = 4 };
 
 /* Takes a step with kept rows. */
@@ -61,8 +61,8 @@ int dwcheck_unwind_step_by(struct cache *cache, struct frame *frame, struct memo
 
 /* ---- many frames at once ---- */
 
-/* A walk that writes addresses: it goes on from `place`, with the rows of `confirmed` slots. `frame` is a frame with all
-   its registers, and `passed` frames have been written from it on. */
+/* A walk that writes addresses: it goes on from `place`, with the rows of `confirmed` slots. `frame` is a frame with
+   all its registers, and `passed` frames have been written from it on. */
 struct addresses {
     struct cache *cache;
     struct memory memory;

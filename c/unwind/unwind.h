@@ -1,5 +1,5 @@
-/* What the files of this folder share: the state of a walk, and what each file does for the others. Modules are found as
-   dwcheck-dl finds them (c/dl/find.h). */
+/* What the files of this folder share: the state of a walk, and what each file does for the others. Modules are found
+   as dwcheck-dl finds them (c/dl/find.h). */
 #ifndef DWCHECK_UNWIND_INTERNAL_H
 #define DWCHECK_UNWIND_INTERNAL_H
 
@@ -57,15 +57,16 @@ HIDDEN void dwcheck_unwind_flush(void);
 
 /* ---- step.c: walks ---- */
 
-/* A frame: its registers, of which those are known whose bits are set; the address to look up, plus 1; how it was found. */
+/* A frame: its registers, of which those are known whose bits are set; the address to look up, plus 1; how it was
+   found. */
 struct frame {
     uint64_t values[REGISTERS], key, known;
     uint32_t guess, is_interrupted, is_last;
     uint64_t signal_context; /* where the kernel has saved registers, for the last handler that the walk has left; or 0 */
 };
 
-/* Where a register of a frame is: nowhere, and then it has the frame's value at most; in memory, at an address; or in another
-   process where it was when that stopped, in the register of that number. */
+/* Where a register of a frame is: nowhere, and then it has the frame's value at most; in memory, at an address; or in
+   another process where it was when that stopped, in the register of that number. */
 enum place_kind { PLACE_NONE, PLACE_MEMORY, PLACE_REGISTER };
 struct place { uint64_t at; enum place_kind kind; };
 
@@ -80,8 +81,8 @@ struct cursor {
 };
 _Static_assert(sizeof(struct cursor) <= sizeof(unw_cursor_t), "a cursor fits");
 
-/* Moves a frame to its caller. Returns what unw_step does. If `places` isn't NULL, it has the places of the registers of
-   the frame, and they become those of the caller. */
+/* Moves a frame to its caller. Returns what unw_step does. If `places` isn't NULL, it has the places of the registers
+   of the frame, and they become those of the caller. */
 HIDDEN int dwcheck_unwind_step(struct cache *cache, struct frame *frame, struct memory *memory, struct place *places);
 /* The same with the row of another address. */
 HIDDEN int dwcheck_unwind_step_by(struct cache *cache, struct frame *frame, struct memory *memory, uint64_t key);
@@ -109,8 +110,8 @@ HIDDEN void dwcheck_unwind_put_place(struct place place, unw_save_loc_t *locatio
 
 /* ---- symbols.c, names.c, handlers.c, procedures.c, registered.c: what is known of an address ---- */
 
-/* Writes the name of the function that is nearest to an address as linked, at or before it, by the symbol tables of an ELF
-   file. Returns what unw_get_proc_name does. */
+/* Writes the name of the function that is nearest to an address as linked, at or before it, by the symbol tables of an
+   ELF file. Returns what unw_get_proc_name does. */
 HIDDEN int dwcheck_unwind_symbol(const uint8_t *file, size_t length, uint64_t address, char *name, size_t size,
                                  unw_word_t *offset);
 /* Copies as much of a name as fits, and says so if that isn't all. */
@@ -133,8 +134,8 @@ struct row_state { uint64_t mark, address; };
 #define ROW_MARK UINT64_C(0x776f722d6b636564)
 
 struct kept_rows;
-/* The accessors of a process, and for another process the rows that steps keep (remote/kept.c). The local address space is
-   known by its address alone. */
+/* The accessors of a process, and for another process the rows that steps keep (remote/kept.c). The local address space
+   is known by its address alone. */
 struct unw_addr_space {
     unw_accessors_t accessors;
     unw_caching_policy_t policy;
@@ -145,8 +146,8 @@ struct unw_addr_space {
 /* ---- of each processor (x86_64/, aarch64/), registers.c ---- */
 
 HIDDEN uint64_t *dwcheck_unwind_in_context(ucontext_t *context, int number);
-/* The place of a frame, for walks with kept rows; and puts a frame where such a walk is, which keeps the registers of a place:
-   the others stay as they are. */
+/* The place of a frame, for walks with kept rows; and puts a frame where such a walk is, which keeps the registers of a
+   place: the others stay as they are. */
 HIDDEN dwcheck_dl_place dwcheck_unwind_place_of(const struct frame *frame);
 HIDDEN void dwcheck_unwind_go_to(struct frame *frame, const dwcheck_dl_place *place);
 /* Has a function called in each child of a fork, as long as this library is loaded. */

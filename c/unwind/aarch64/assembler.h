@@ -1,5 +1,6 @@
-/* How functions are written in assembler for aarch64, with rows, so that walks go on through them. Jumps lead to `bti c`, and
-   return addresses are signed, which the note at the end of each object says. They are hints, for any assembler. */
+/* How functions are written in assembler for aarch64, with rows, so that walks go on through them. Jumps lead to `bti
+   c`, and return addresses are signed, which the note at the end of each object says. They are hints, for any
+   assembler. */
 #define BTI_C hint #34
 #define SIGN hint #25; .cfi_negate_ra_state
 #define AUTHENTICATE hint #29; .cfi_negate_ra_state

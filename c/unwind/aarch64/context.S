@@ -9,8 +9,8 @@
 
     .text
 
-/* int _Uaarch64_getcontext(unw_context_t *): the registers as they are when it has returned. It makes no system call, so the
-   signal mask of the context isn't written, and no register of floating-point numbers is. */
+/* int _Uaarch64_getcontext(unw_context_t *): the registers as they are when it has returned. It makes no system call,
+   so the signal mask of the context isn't written, and no register of floating-point numbers is. */
 FUNCTION(_Uaarch64_getcontext)
     BTI_C
     stp x0, x1, [x0, #REGISTERS_PLACE]
@@ -37,8 +37,8 @@ FUNCTION(_Uaarch64_getcontext)
     ret
 END(_Uaarch64_getcontext)
 
-/* void dwcheck_unwind_continue(const uint64_t registers[34]): all are read before the stack pointer leaves them behind. A call
-   has returned where it goes on, so x16 and x17 aren't needed, and x30 has that address. */
+/* void dwcheck_unwind_continue(const uint64_t registers[34]): all are read before the stack pointer leaves them behind.
+   A call has returned where it goes on, so x16 and x17 aren't needed, and x30 has that address. */
     .hidden dwcheck_unwind_continue
 FUNCTION(dwcheck_unwind_continue)
     .cfi_undefined x30

@@ -1,6 +1,6 @@
-/* Frames that no row covers. Where an entry of a PLT, or a call of what is no code, has left everything as it was, the return
-   address is in x30, as libunwind supposes of all such frames. Else x29 leads to the caller's x29 and the return address.
-   unw_is_guess says of a frame that it was found so. */
+/* Frames that no row covers. Where an entry of a PLT, or a call of what is no code, has left everything as it was, the
+   return address is in x30, as libunwind supposes of all such frames. Else x29 leads to the caller's x29 and the return
+   address. unw_is_guess says of a frame that it was found so. */
 #include "../../dl/processor.h"
 #include "../unwind.h"
 
@@ -28,8 +28,8 @@ static int after_call(struct frame *frame, struct place *places, uint64_t pushed
     return go_to(frame, address, frame->values[SP] + pushed, guess);
 }
 
-/* Where the caller's stack pointer is can't be known. gcc keeps the two words at the bottom of a frame, so that x29 is the
-   stack pointer, and clang counts from x29 alone. So the caller's x29 is taken for both. */
+/* Where the caller's stack pointer is can't be known. gcc keeps the two words at the bottom of a frame, so that x29 is
+   the stack pointer, and clang counts from x29 alone. So the caller's x29 is taken for both. */
 static int by_frame_pointer(struct frame *frame, struct place *places, const struct word_reader *memory) {
     enum { FARTHEST = 0x4000 };
     const uint64_t pointer = frame->values[FP];

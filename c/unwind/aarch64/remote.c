@@ -1,5 +1,5 @@
-/* Stacks of other processes, which the libraries for aarch64 don't walk: there are no address spaces but the local one, and so
-   no cursors of others. */
+/* Stacks of other processes, which the libraries for aarch64 don't walk: there are no address spaces but the local one,
+   and so no cursors of others. */
 #include "../remote/remote.h"
 
 struct kept_rows *dwcheck_remote_new(void) { return NULL; }

@@ -1,6 +1,6 @@
-/* What gcc's objects and the C library's static part do for a shared library. They aren't marked as protected, so this one does
-   without them: it has a name under which the C library knows what it has registered, and gives that up before it is
-   unloaded. */
+/* What gcc's objects and the C library's static part do for a shared library. They aren't marked as protected, so this
+   one does without them: it has a name under which the C library knows what it has registered, and gives that up before
+   it is unloaded. */
 #include "../unwind.h"
 
 extern void *__dso_handle;

@@ -1,5 +1,6 @@
-/* libunwind-x86_64.so.8, or libunwind-aarch64.so.8: the names that programs use which haven't said UNW_LOCAL_ONLY. Each goes on
-   to the call of the local name in libunwind.so.8, which takes cursors and address spaces of other processes too. */
+/* libunwind-x86_64.so.8, or libunwind-aarch64.so.8: the names that programs use which haven't said UNW_LOCAL_ONLY. Each
+   goes on to the call of the local name in libunwind.so.8, which takes cursors and address spaces of other processes
+   too. */
 #if defined(__aarch64__)
 #include "../aarch64/assembler.h"
 #define HAND_ON(name) FUNCTION(_Uaarch64_##name); BTI_C; adrp x16, :got:_ULaarch64_##name; \

@@ -27,8 +27,8 @@
 #define FUNCTION(name) .globl name; .type name, @function; .p2align 4; name: .cfi_startproc
 #define END(name) .cfi_endproc; .size name, . - name
 
-/* int _Ux86_64_getcontext(ucontext_t *): the registers as they are when it has returned. It makes no system call, so the
-   signal mask of the context isn't written. */
+/* int _Ux86_64_getcontext(ucontext_t *): the registers as they are when it has returned. It makes no system call, so
+   the signal mask of the context isn't written. */
 FUNCTION(_Ux86_64_getcontext)
     movq %r8, R8_PLACE(%rdi)
     movq %r9, R9_PLACE(%rdi)
@@ -136,7 +136,8 @@ FUNCTION(dwcheck_unwind_call)
     ret
 END(dwcheck_unwind_call)
 
-/* int unw_backtrace(void **addresses, int size): passes the caller's place, a dwcheck_register_place, with the others. */
+/* int unw_backtrace(void **addresses, int size): passes the caller's place, a dwcheck_register_place, with the
+   others. */
 FUNCTION(unw_backtrace)
     subq $72, %rsp
     .cfi_adjust_cfa_offset 72

@@ -1,5 +1,6 @@
-/* Frames that no row covers. The policy is libunwind's: an entry of a PLT has pushed nothing; where no code can be, a call
-   has just pushed its return address; else rbp is a frame pointer. unw_is_guess says of a frame that it was found so. */
+/* Frames that no row covers. The policy is libunwind's: an entry of a PLT has pushed nothing; where no code can be, a
+   call has just pushed its return address; else rbp is a frame pointer. unw_is_guess says of a frame that it was found
+   so. */
 #include "../unwind.h"
 
 /* Continues at a caller of which no other registers are known. */

@@ -58,7 +58,8 @@ kinds! {
     WrongCfa = "wrong CFA",
     /// The return address isn't where the row says.
     ReturnAddress = "return address",
-    /// The row says that the return address is still in its register, where a call or another instruction has overwritten it.
+    /// The row says that the return address is still in its register, where a call or another instruction has
+    /// overwritten it.
     ReturnAddressOverwritten = "return address overwritten",
     /// The return address was never stored where the row says.
     ReturnAddressNeverSaved = "return address never saved",
@@ -102,7 +103,8 @@ impl Kind {
         place.and_then(|place| MEANINGS.get(place)).map_or("", |meaning| meaning.trim())
     }
 
-    /// The kind by what is wrong with the rule of the return address. Where a call stores it in memory, that says no more.
+    /// The kind by what is wrong with the rule of the return address. Where a call stores it in memory, that says no
+    /// more.
     fn of_return_address(module: &Module<'_>, group: &Group<'_>) -> Kind {
         let is_in_register = module.machine.return_slot.is_none();
         match group.mark.verdict.return_address {

@@ -38,9 +38,9 @@ pub fn is_only_padding(code: &Code<'_>, offset: u32) -> Option<u32> {
     Some(at).filter(|at| *at != offset)
 }
 
-/// Rule "padding": whether an FDE begins with padding that isn't run, with what is known at its first address: GCC begins
-/// a cold part with a `nop` that nothing jumps to, and in assembly the FDE may begin before the function's alignment,
-/// after which the row changes.
+/// Rule "padding": whether an FDE begins with padding that isn't run, with what is known at its first address: GCC
+/// begins a cold part with a `nop` that nothing jumps to, and in assembly the FDE may begin before the function's
+/// alignment, after which the row changes.
 pub fn begins_with_padding(flow: &Flow<'_, '_>, start: &State) -> bool {
     let changes = |after: u32| match (flow.row(flow.code.address(0)), flow.row(flow.code.address(after))) {
         (Some(first), Some(row)) => row.begin == flow.code.address(after) && !first.has_rules_of(row),
@@ -69,8 +69,8 @@ pub fn is_exit_call(flow: &Flow<'_, '_>, state: &State) -> bool {
 }
 
 /// Rule "row changes after the call": whether the row after a call says something else than the row of the call, and
-/// doesn't fit the state after the call. Then the call doesn't return, and other code follows it. Where that is aligned,
-/// its row begins after the padding.
+/// doesn't fit the state after the call. Then the call doesn't return, and other code follows it. Where that is
+/// aligned, its row begins after the padding.
 pub fn row_changes_after_call(flow: &Flow<'_, '_>, call: u32, state: &State) -> bool {
     let next = flow.code.next(call);
     let (before, after) = (flow.code.address(call), flow.code.address(aligned_code(flow, next).unwrap_or(next)));
@@ -82,8 +82,8 @@ pub fn row_changes_after_call(flow: &Flow<'_, '_>, call: u32, state: &State) -> 
     }
 }
 
-/// Where code begins that is aligned after a call, if it is: padding leads up to it, and a row begins with it. Compilers
-/// align only what jumps lead to, while a `nop` elsewhere runs as soon as the call returns.
+/// Where code begins that is aligned after a call, if it is: padding leads up to it, and a row begins with it.
+/// Compilers align only what jumps lead to, while a `nop` elsewhere runs as soon as the call returns.
 fn aligned_code(flow: &Flow<'_, '_>, after_call: u32) -> Option<u32> {
     let code = is_only_padding(&flow.code, after_call)?;
     let address = flow.code.address(code);
@@ -92,8 +92,8 @@ fn aligned_code(flow: &Flow<'_, '_>, after_call: u32) -> Option<u32> {
 }
 
 /// Rule "arguments that the callee pops": how many bytes a call removes from the stack, by the rows after it: the first
-/// one with another offset from the stack pointer, or the one after a subtraction that takes the bytes back. `None` if the
-/// CFA isn't found by the stack pointer.
+/// one with another offset from the stack pointer, or the one after a subtraction that takes the bytes back. `None` if
+/// the CFA isn't found by the stack pointer.
 pub fn arguments_popped_by_rows(flow: &Flow<'_, '_>, call: u32) -> Option<i64> {
     let machine = flow.module.machine;
     let row = |at| flow.row(flow.code.address(at));

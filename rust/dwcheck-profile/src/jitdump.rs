@@ -125,8 +125,8 @@ pub(super) enum Record {
     Load { index: u64, begin: u64, size: u64, name: Vec<u8> },
     /// A function was moved.
     Move { index: u64, begin: u64, size: u64 },
-    /// The unwind table of the function that is made next: an `.eh_frame` section, and a search table that has this many
-    /// bytes.
+    /// The unwind table of the function that is made next: an `.eh_frame` section, and a search table that has this
+    /// many bytes.
     Unwinding { data: Vec<u8>, header: u64 },
     /// Another record.
     Other,
@@ -175,7 +175,8 @@ impl Record {
     }
 }
 
-/// Reads a name that has at most this many bytes with the zero at its end. Returns the number of bytes that were read too.
+/// Reads a name that has at most this many bytes with the zero at its end. Returns the number of bytes that were read
+/// too.
 fn read_function_name<R: Read>(file: &mut R, most: u64) -> io::Result<(Vec<u8>, u64)> {
     let mut name = Vec::new();
     let read = file.take(most.min(LONGEST)).read_to_end(&mut name)? as u64;

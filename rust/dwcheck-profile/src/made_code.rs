@@ -1,9 +1,9 @@
-//! The unwind tables of code that a compiler made at run time, as the file `jit-PID.dump` has them: before the record of
-//! a function, one with its `.eh_frame` section.
+//! The unwind tables of code that a compiler made at run time, as the file `jit-PID.dump` has them: before the record
+//! of a function, one with its `.eh_frame` section.
 //!
 //! V8 writes these, and perf reads them: the section is taken to be in memory after the code, at the next multiple of 8
-//! bytes from the code's begin. The specification of the file has the search table first, as LLVM writes it; it then has the
-//! address of the section, which may have rows of all functions up to the next such record.
+//! bytes from the code's begin. The specification of the file has the search table first, as LLVM writes it; it then
+//! has the address of the section, which may have rows of all functions up to the next such record.
 
 use super::jitdump::{Dump, Record};
 use dwcheck_elf::frames::{Format, FrameSection, Name};

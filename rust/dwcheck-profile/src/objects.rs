@@ -68,8 +68,8 @@ pub(super) struct Loaded {
 }
 
 impl Loaded {
-    /// The address as linked of the byte at an address of a mapping. `None` if it isn't code, or if it is code of no file
-    /// that no table covers.
+    /// The address as linked of the byte at an address of a mapping. `None` if it isn't code, or if it is code of no
+    /// file that no table covers.
     pub fn linked(&self, mapping: &Mapping, address: u64) -> Option<u64> {
         let code = match &self.code {
             Some(code) => code,
@@ -310,8 +310,8 @@ impl Objects {
         self.all.get(id as usize)
     }
 
-    /// What is known of the file of an object, or of the file in which its process lists code that it has made. It is opened
-    /// when this is first asked.
+    /// What is known of the file of an object, or of the file in which its process lists code that it has made. It is
+    /// opened when this is first asked.
     pub fn loaded(&self, id: ObjectId) -> Option<&Loaded> {
         let object = self.get(id)?;
         match object.kind {
@@ -328,8 +328,8 @@ impl Objects {
 /// How the kernel names a file that is in memory only.
 const MEMORY_FILE: &[u8] = b"/memfd:";
 
-/// Whether the name is one that the kernel gives to memory without a name of its own. perf shows such memory by the name
-/// of the file in which the process may list its code.
+/// Whether the name is one that the kernel gives to memory without a name of its own. perf shows such memory by the
+/// name of the file in which the process may list its code.
 fn is_anonymous_memory(name: &[u8]) -> bool {
     const NAMES: [&[u8]; 6] = [b"//", b"/dev/zero", b"/anon_hugepage", b"/SYSV", b"[heap]", b"[stack"];
     name.is_empty() || NAMES.into_iter().any(|begin| name.starts_with(begin))

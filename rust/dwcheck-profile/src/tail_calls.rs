@@ -147,8 +147,8 @@ fn called_before(loaded: &Loaded, address: u64) -> Option<u64> {
     }
 }
 
-/// Whether the code at an address is that of a procedure linkage table, which leads to a function by a pointer. Some others
-/// begin in the same way, and are looked up by name.
+/// Whether the code at an address is that of a procedure linkage table, which leads to a function by a pointer. Some
+/// others begin in the same way, and are looked up by name.
 fn is_stub(loaded: &Loaded, address: u64) -> bool {
     let code = loaded.code_at(address).unwrap_or(&[]);
     let [jump, marked] = STUBS;

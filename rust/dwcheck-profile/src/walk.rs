@@ -277,8 +277,9 @@ impl<'w> Walker<'w> {
         }
     }
 
-    /// The frame that a cursor is at, and whether a signal handler has returned to it, by code for which no row says so.
-    /// Where a return address follows no call, the frame is looked up at the address itself, and the cursor says so.
+    /// The frame that a cursor is at, and whether a signal handler has returned to it, by code for which no row says
+    /// so. Where a return address follows no call, the frame is looked up at the address itself, and the cursor says
+    /// so.
     fn frame(&mut self, mapping: &Mapping, view: &Sampled<'_>, cursor: &mut Cursor) -> (At, bool) {
         let address = cursor.address();
         if cursor.is_exact() {
@@ -380,9 +381,9 @@ impl<'w> Walker<'w> {
 /// Cursors have no registers with higher numbers.
 const MOST_REGISTERS: u16 = 96;
 
-/// Steps from a frame that is at this address as linked. The library takes a signature off the return address only where
-/// rows of `.eh_frame` say that there is one. Those of `.debug_frame` can't say it, and the bits are 0 in each address of
-/// code, so they are taken off here.
+/// Steps from a frame that is at this address as linked. The library takes a signature off the return address only
+/// where rows of `.eh_frame` say that there is one. Those of `.debug_frame` can't say it, and the bits are 0 in each
+/// address of code, so they are taken off here.
 fn step_to_caller(
     process: &Process,
     linked: u64,

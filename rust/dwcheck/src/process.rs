@@ -104,8 +104,9 @@ impl Process {
     ///
     /// # Errors
     ///
-    /// [`Error::Refused`] with the first fault of the section, [`Error::Range`], [`Error::Overlaps`] with the id of the other module, [`Error::NoRoom`], [`Error::NoMemory`]
-    /// or [`Error::TooLong`]. After an error the process is unchanged.
+    /// [`Error::Refused`] with the first fault of the section, [`Error::Range`], [`Error::Overlaps`] with the id of the
+    /// other module, [`Error::NoRoom`], [`Error::NoMemory`] or [`Error::TooLong`]. After an error the process is
+    /// unchanged.
     ///
     /// ```
     /// # const SECTION: &[u8] = &[

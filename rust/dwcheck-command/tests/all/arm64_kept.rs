@@ -1,6 +1,6 @@
-//! A core file that Linux for arm64 has written, of bench/arm64/kept.c: the handler of a signal has read at a null pointer.
-//! The program's return addresses are signed, and the handler returns to the kernel's vDSO. `KEEP=.. bench/arm64/vm.sh` makes
-//! it again.
+//! A core file that Linux for arm64 has written, of bench/arm64/kept.c: the handler of a signal has read at a null
+//! pointer. The program's return addresses are signed, and the handler returns to the kernel's vDSO.
+//! `KEEP=.. bench/arm64/vm.sh` makes it again.
 
 use crate::common::cores::{addresses, by_gdb_of, frames, stop};
 use crate::common::run::dwcheck_elf;

@@ -1,6 +1,6 @@
-//! What containers of C++, Rust and Go hold. What is expected of those of libstdc++ is what gdb's pretty-printers show, of
-//! maps of Go what the program prints, and of the others what the source says; bench/elf/containers.py compares all of them
-//! with debuggers at random instructions.
+//! What containers of C++, Rust and Go hold. What is expected of those of libstdc++ is what gdb's pretty-printers show,
+//! of maps of Go what the program prints, and of the others what the source says; bench/elf/containers.py compares all
+//! of them with debuggers at random instructions.
 
 use crate::common::run::dwcheck_elf;
 use crate::common::{has, may_trace, Folder};

@@ -202,8 +202,8 @@ fn nothing_is_found_in_right_objects() {
     }
 }
 
-/// Tables of jumps, found by relocations that are relative to the global offset table, and calls of functions that don't
-/// return, found in position-independent programs by entries of the procedure linkage table that use it.
+/// Tables of jumps, found by relocations that are relative to the global offset table, and calls of functions that
+/// don't return, found in position-independent programs by entries of the procedure linkage table that use it.
 #[test]
 fn code_for_i386() {
     let folder = Folder::new("lint-i386");

@@ -40,8 +40,8 @@ fn the_lines_are_those_of_perf() {
     }
 }
 
-/// A recording of Linux for arm64: bench/arm64/kept.c, whose return addresses are signed. perf shows when samples were taken
-/// and where, but takes no signature off: that the other frames are these is known from the program.
+/// A recording of Linux for arm64: bench/arm64/kept.c, whose return addresses are signed. perf shows when samples were
+/// taken and where, but takes no signature off: that the other frames are these is known from the program.
 #[test]
 fn signed_return_addresses_of_a_recording_of_arm64_are_followed() {
     let (folder, by_perf) = (Folder::new("profile-arm64"), script("arm64.script"));

@@ -115,8 +115,8 @@ fn rows_that_v8_writes_are_used() {
     assert_eq!(walked(&[inner], 15, 1), CUT);
 }
 
-/// The search table comes first, as the specification has it, and says where the section is: 8 bytes after the code's end
-/// that V8's section would have. It is about both functions.
+/// The search table comes first, as the specification has it, and says where the section is: 8 bytes after the code's
+/// end that V8's section would have. It is about both functions.
 #[test]
 fn rows_of_a_section_with_an_address_are_used_for_all_functions_that_follow() {
     let mut section = of_v8();

@@ -33,8 +33,8 @@ pub struct OneFde {
 }
 
 impl<'a> SectionTable<'a> {
-    /// The frame sections of a program, `.debug_frame` first, and why others can't be read. A program without any may have
-    /// code to which signal handlers return, for which there is a section of our own.
+    /// The frame sections of a program, `.debug_frame` first, and why others can't be read. A program without any may
+    /// have code to which signal handlers return, for which there is a section of our own.
     pub fn all(program: &Program<'a>) -> (Vec<Self>, Vec<String>) {
         let mut problems = Vec::new();
         let mut sections = Vec::new();

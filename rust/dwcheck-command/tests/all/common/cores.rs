@@ -14,7 +14,8 @@ while frame is not None:
 end
 ";
 
-/// The lines of frames that `dwcheck-elf stack` writes, without the numbers, and without functions that ended with a jump.
+/// The lines of frames that `dwcheck-elf stack` writes, without the numbers, and without functions that ended with a
+/// jump.
 pub fn frames(out: &str) -> Vec<&str> {
     let mut found: Vec<&str> = Vec::new();
     for (_, frame) in out.lines().filter_map(|line| line.strip_prefix('#')?.split_once(' ')) {

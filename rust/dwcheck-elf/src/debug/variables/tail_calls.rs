@@ -1,5 +1,6 @@
-//! Finds the functions that ended with a jump (tail calls) between a call and the function that it has led to, where call
-//! sites prove which ones these are (DWARF 5, section 3.4): gdb's rule, for the case that there is exactly one way.
+//! Finds the functions that ended with a jump (tail calls) between a call and the function that it has led to, where
+//! call sites prove which ones these are (DWARF 5, section 3.4): gdb's rule, for the case that there is exactly one
+//! way.
 
 use super::call_sites::{call_site_returning_to, return_address_of_site};
 use super::functions::{begin_of, FunctionIndex};
@@ -29,7 +30,8 @@ pub(crate) struct CallSites<'a> {
     functions: FunctionIndex,
 }
 
-/// What call sites say isn't enough: a target isn't known, a function has no debug information, or there are several ways.
+/// What call sites say isn't enough: a target isn't known, a function has no debug information, or there are several
+/// ways.
 struct Unproved;
 
 /// A search for the ways from a call to a function.

@@ -251,8 +251,8 @@ impl<'a> Names<'a> {
         self.position_of(address, looked_up, found, options)
     }
 
-    /// For each call, by the address to which it returns and one in the function that was reached, the jumps at the ends
-    /// of functions between them, if call sites prove them.
+    /// For each call, by the address to which it returns and one in the function that was reached, the jumps at the
+    /// ends of functions between them, if call sites prove them.
     pub fn tail_calls(&self, calls: &[(u64, u64)]) -> Vec<Vec<TailCall>> {
         let none = || calls.iter().map(|_| Vec::new()).collect();
         let lines = match &self.debug {
