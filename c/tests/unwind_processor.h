@@ -55,7 +55,7 @@ static const int saved[] = {UNW_AARCH64_X19, UNW_AARCH64_X20, UNW_AARCH64_X21, U
                             UNW_AARCH64_SP};
 enum { SMALL_STACK = 24000, REGISTERS = 98, KEPT_NUMBER = UNW_AARCH64_X19, GUESSES_ARE_THEIRS = 0 };
 #define KEPT_NAME "x19"
-/* The stack pointer and the address lie behind x30. */
+/* The stack pointer and the address come after x30. */
 #define REGISTER(CONTEXT, NUMBER) ((&(CONTEXT)->uc_mcontext.fault_address)[1 + (NUMBER)])
 enum { GENERAL_REGISTERS = UNW_AARCH64_PC + 1 };
 

@@ -37,8 +37,9 @@ FUNCTION(_Uaarch64_getcontext)
     ret
 END(_Uaarch64_getcontext)
 
-/* void dwcheck_unwind_continue(const uint64_t registers[34]): all are read before the stack pointer leaves them behind.
-   A call has returned where it goes on, so x16 and x17 aren't needed, and x30 has that address. */
+/* void dwcheck_unwind_continue(const uint64_t registers[34]): all are read before the stack pointer moves, since a
+   signal's frame may overwrite what is below it. A call has returned where it goes on, so x16 and x17 aren't needed,
+   and x30 has that address. */
     .hidden dwcheck_unwind_continue
 FUNCTION(dwcheck_unwind_continue)
     .cfi_undefined x30
@@ -75,10 +76,7 @@ END(dwcheck_unwind_return_from_signal)
     .hidden dwcheck_unwind_call
 FUNCTION(dwcheck_unwind_call)
     SIGN
-    stp x29, x30, [sp, #-16]!
-    .cfi_def_cfa_offset 16
-    .cfi_offset x29, -16
-    .cfi_offset x30, -8
+    PUSH_FRAME
     mov x29, sp
     .cfi_def_cfa_register x29
     mov sp, x2
@@ -87,10 +85,7 @@ FUNCTION(dwcheck_unwind_call)
     blr x9
     mov sp, x29
     .cfi_def_cfa_register sp
-    ldp x29, x30, [sp], #16
-    .cfi_def_cfa_offset 0
-    .cfi_restore x29
-    .cfi_restore x30
+    POP_FRAME
     AUTHENTICATE
     ret
 END(dwcheck_unwind_call)
@@ -100,10 +95,7 @@ FUNCTION(unw_backtrace)
     BTI_C
     mov x9, x30
     SIGN
-    stp x29, x30, [sp, #-16]!
-    .cfi_def_cfa_offset 16
-    .cfi_offset x29, -16
-    .cfi_offset x30, -8
+    PUSH_FRAME
     add x10, sp, #16
     sub sp, sp, #128
     .cfi_def_cfa_offset 144
@@ -120,10 +112,7 @@ FUNCTION(unw_backtrace)
     bl dwcheck_unwind_addresses
     add sp, sp, #128
     .cfi_def_cfa_offset 16
-    ldp x29, x30, [sp], #16
-    .cfi_def_cfa_offset 0
-    .cfi_restore x29
-    .cfi_restore x30
+    POP_FRAME
     AUTHENTICATE
     ret
 END(unw_backtrace)

@@ -70,8 +70,8 @@ unsafe impl Send for Process {}
 // `dwcheck_row_at`, `dwcheck_is_signal_frame`, `dwcheck_is_signed`, `dwcheck_rule_bytes`,
 // `dwcheck_unwind`, `dwcheck_backtrace`, `dwcheck_backtrace_cached`, `dwcheck_cursor_step`,
 // `dwcheck_cursor_step_with` and `dwcheck_process_share` take the process by a pointer to const, and
-// the library allows any number of them at once, in any threads. The calls that change a process, `dwcheck_process_add`,
-// `_remove` and `_close`, are made with a `&mut Process`.
+// the library allows any number of them at once, in any threads. The calls that change a process,
+// `dwcheck_process_add`, `_remove` and `_close`, are made with a `&mut Process`.
 unsafe impl Sync for Process {}
 
 impl Process {

@@ -245,8 +245,8 @@ fn arguments_that_the_callee_pops() {
     I386.planted("popped", "wrong row at a block", text);
 }
 
-/// What a function behind a pointer pops is what the rows say. In a frame that is found by ebp they say nothing, so
-/// that nothing is found there by the stack pointer.
+/// What a function that is called by a pointer pops is what the rows say. In a frame that is found by ebp they say
+/// nothing, so that nothing is found there by the stack pointer.
 #[test]
 fn arguments_that_are_perhaps_popped() {
     I386.judged(
