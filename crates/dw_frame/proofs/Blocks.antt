@@ -1,17 +1,17 @@
 -- The block of an instruction ends where the instruction ends, and a record's program lies inside
 -- the record.
 use Rattle.std.proofs.Common.{◌≡◌, ℕ, ◌+◌, ◌<◌, Bool, true, false, cond, List, [], ◌∷◌, length, Option, Some, None, sym, ap, subst, arith}
-use Rattle.std.specs.Prelude.{◌==◌, ◌||◌, nat_lt}
+use Rattle.std.specs.Prelude.{◌==◌, ◌||◌, ◌^◌, nat_le, nat_lt}
 use Rattle.std.proofs.lemmas.List.{length-append}
 use Rattle.dw_bytes.specs.declared.target.Target.{Target}
 use Rattle.dw_bytes.specs.Operands.{OperandKind, address, fixed, unsigned, signed, register_number, block}
 use Rattle.dw_bytes.specs.Operands.{Block, IsBlock, Operands, Line, line, one, AreOperands}
 use Rattle.dw_frame.specs.declared.dialect.Dialect.{Dialect}
-use Rattle.dw_frame.specs.Dialects.{has_args_size, is_aarch64, has_plain_addresses}
+use Rattle.dw_frame.specs.Dialects.{has_gnu_codes, is_aarch64, has_plain_addresses}
 use Rattle.dw_frame.specs.Instructions.{Instruction}
 use Rattle.dw_frame.specs.Records.{Record}
 use Rattle.dw_frame.specs.Sections.{IsRecord}
-use Rattle.dw_frame.specs.Codes.{extended_line, extended_line_of, line_of, EncodesInstruction}
+use Rattle.dw_frame.specs.Codes.{extended_line, extended_line_of, line_of, negative_offset, EncodesInstruction}
 use Rattle.dw_frame.specs.Bounds.{EndsWith, EndsWithItsBlock, IsSoundRecord, offset_of}
 use Rattle.dw_frame.proofs.RecordBounds.{sound-record, record-offset}
 
@@ -98,15 +98,26 @@ extended-lines start target code =
     (block-second start target register_number (λ vs. Instruction.val_expression vs.0 vs.1.0) (λ vs end h. h))
     (unknown start target)))))))))))))))))))))))
 
+either : (b : Bool) (P : Instruction → Type 0) (x y : Instruction) → P x → P y → P (cond b x y)
+either true P x y h k = h
+either false P x y h k = k
+
+no-block : (start : ℕ) (target : Target) (end r n : ℕ) → EndsWithItsBlock target start end (negative_offset r n)
+no-block start target end r n = either (nat_le n (2 ^ 63)) (EndsWithItsBlock target start end) _ _ tt tt
+
 dialect-lines : (start : ℕ) (target : Target) (d : Dialect) (code : ℕ) → Holds start target (extended_line_of d code)
 dialect-lines start target d code =
     let H = Holds start target in
     which (code == 0x01) H _ _ (which (has_plain_addresses d) H _ _ (extended-lines start target code) (unknown start target))
     (which (code == 0x2e) H _ _
-    (which (has_args_size d) H _ _ (without start target (unsigned ∷ []) (λ vs. Instruction.nop) (λ vs end. tt)) (unknown start target))
+    (which (has_gnu_codes d) H _ _ (without start target (unsigned ∷ []) (λ vs. Instruction.nop) (λ vs end. tt)) (unknown start target))
+    (which (code == 0x2f) H _ _
+    (which (has_gnu_codes d) H _ _
+    (without start target (register_number ∷ unsigned ∷ []) (λ vs. negative_offset vs.0 vs.1.0) (λ vs end. no-block start target end vs.0 vs.1.0))
+    (unknown start target))
     (which (code == 0x2d || code == 0x2c) H _ _
     (which (is_aarch64 d) H _ _ (without start target [] (λ vs. Instruction.negate_ra_state) (λ vs end. tt)) (unknown start target))
-    (extended-lines start target code)))
+    (extended-lines start target code))))
 
 all-lines : (start : ℕ) (target : Target) (d : Dialect) (code : ℕ) → Holds start target (line_of d code)
 all-lines start target d code =

@@ -1,15 +1,16 @@
 //! `Dialect`: in which ways the codes of a program differ from DWARF's.
 
 ghost use Rattle.std.specs.Prelude.{◌≡◌};
-ghost use Rattle.dw_frame.specs.Dialects.{has_args_size, is_aarch64, has_plain_addresses};
+ghost use Rattle.dw_frame.specs.Dialects.{has_gnu_codes, is_aarch64, has_plain_addresses};
 
-/// Which codes a program may use besides DWARF's, and which of DWARF's it may not. No rule of a row
-/// depends on a vendor's code. It is one byte, so that a `Program` takes no more room.
+/// Which codes a program may use besides DWARF's, and which of DWARF's it may not. It is one byte, so
+/// that a `Program` takes no more room.
 #[derive(Clone, Copy, Debug)]
 pub enum Dialect {
     /// `.debug_frame`: the codes of DWARF, and no other.
     DebugFrame,
-    /// `.eh_frame`: the code 0x2e is DW_CFA_GNU_args_size.
+    /// `.eh_frame`: the code 0x2e is DW_CFA_GNU_args_size, and 0x2f is
+    /// DW_CFA_GNU_negative_offset_extended.
     EhFrame,
     /// `.eh_frame` whose addresses are encoded: set_loc isn't known.
     EhFrameEncoded,
@@ -21,10 +22,11 @@ pub enum Dialect {
 }
 
 impl Dialect {
-    /// Whether the code 0x2e is DW_CFA_GNU_args_size.
+    /// Whether the codes 0x2e and 0x2f are DW_CFA_GNU_args_size and
+    /// DW_CFA_GNU_negative_offset_extended.
     #[inline(always)]
-    pub fn has_args_size(self) -> bool
-        ensures { result ≡ has_args_size self }
+    pub fn has_gnu_codes(self) -> bool
+        ensures { result ≡ has_gnu_codes self }
     {
         match self {
             Dialect::DebugFrame => false,
