@@ -13,3 +13,4 @@ pub mod Under
 pub mod AbiRules
 pub mod ExpressionBytes
 pub mod AbiFaults
+pub mod NegativeOffsets

@@ -1,12 +1,15 @@
 //! Laws: what the definitions in `specs/` imply. Each law is the contract of a function that does
 //! nothing.
 
-ghost use Rattle.std.specs.Prelude.{◌≡◌, ℕ, ◌+◌, ◌<◌, ◌↔◌, List, Option, Some, None};
+ghost use Rattle.std.specs.Prelude.{◌≡◌, ℕ, ◌+◌, ◌<◌, ◌↔◌, neg_ℤ, false, List, Option, Some, None};
 ghost use Rattle.std.specs.Prelude.{All, ◌++◌};
 ghost use Rattle.std.specs.Option.{option_to_list};
 ghost use Rattle.dw_bytes.specs.declared.fault.FaultKind.TheVariants.{AbiTwice};
+ghost use Rattle.dw_frame.specs.Codes.{negative_offset};
+ghost use Rattle.dw_frame.specs.Records.{Cie};
+ghost use Rattle.dw_rules.specs.Effects.{data_aligned, effect_of, overflows, sets};
 ghost use Rattle.dw_rules.specs.Abi.{Abi, CanBeAbi, StandsAgain, abi_fault, no_abi, rule_under, rules_under};
-ghost use Rattle.dw_rules.specs.Rules.{Rule, PlacedRule, IsTable, rule_in, rule_list};
+ghost use Rattle.dw_rules.specs.Rules.{Rule, RuleOver, PlacedRule, IsTable, rule_in, rule_list};
 
 /// A list of rules in ascending order of registers, and the function from registers to rules that
 /// it stands for, can be converted into each other without loss (`rule_in` and `rule_list`,
@@ -41,4 +44,14 @@ pub fn abis_without_fault_are_distinct()
     ensures twice { (registers : List ℕ) (pointer : Option ℕ) (place : ℕ)
         → abi_fault registers pointer ≡ Some (record { kind = AbiTwice; at = place })
         → StandsAgain (registers ++ option_to_list pointer) place }
+{}
+
+/// GNU_negative_offset_extended saves a register at minus n times the data alignment factor from the
+/// CFA. The instruction of DWARF as which it is read (`negative_offset`, Codes.antt) does that, and is
+/// refused exactly where that offset doesn't fit in 64 bits.
+pub fn negative_offsets_are_negated()
+    ensures overflow { (cie : Cie) (r n : ℕ) → overflows (effect_of cie (negative_offset r n))
+        ≡ overflows (sets r (RuleOver.offset (neg_ℤ (data_aligned cie n)))) }
+    ensures saved { (cie : Cie) (r n : ℕ) → overflows (effect_of cie (negative_offset r n)) ≡ false
+        → effect_of cie (negative_offset r n) ≡ sets r (RuleOver.offset (neg_ℤ (data_aligned cie n))) }
 {}
