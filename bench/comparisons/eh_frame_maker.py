@@ -95,6 +95,8 @@ class EhFrameMaker(SectionMaker):
             return super().instruction()
         if self.is_aarch64 and self.chance(0.6) or self.slips():
             return bytes([self.random.choice([0x2d, 0x2d, 0x2c])])
+        if self.chance(0.3):
+            return b"\x2f" + self.unsigned(self.number()) + self.unsigned(self.number())
         return b"\x2e" + self.unsigned(self.number())
 
     # Records.

@@ -30,9 +30,9 @@ ALIGNED, OMITTED, INDIRECT = 0x50, 0xff, 0x80
 # Those that may stand beside the low four bits in the encoding of an FDE's addresses.
 RELATIONS = (0, FROM_PLACE, FROM_TEXT, FROM_DATA)
 
-# The instructions that both formats have, with their codes, and those that only `.eh_frame` has. These
-# change no rule.
-EXTENDED = CODES | {0x2e: ("nop", "u")}
+# The instructions that both formats have, with their codes, and those that only `.eh_frame` has. Of these,
+# GNU_negative_offset_extended alone changes a rule.
+EXTENDED = CODES | {0x2e: ("nop", "u"), 0x2f: ("negative_offset", "ru")}
 EXTENDED_FOR_AARCH64 = EXTENDED | {0x2d: ("nop", ""), 0x2c: ("nop", "")}
 SET_LOC, DEF_CFA_REGISTER = 0x01, 0x0d
 
