@@ -176,7 +176,7 @@ own-programs is_aarch64 target section kept e good among =
 
 -- ---- no fault but an overlap
 
-no-first : {X : Type 0} (test : X → Option Fault) (xs : List X) → ((x : X) → Contains xs x → test x ≡ None) → first_fault test xs ≡ None
+pub no-first : {X : Type 0} (test : X → Option Fault) (xs : List X) → ((x : X) → Contains xs x → test x ≡ None) → first_fault test xs ≡ None
 no-first test [] none = refl
 no-first test (x ∷ xs) none =
     ap (λ (o : Option Fault). option_or o (first_fault test xs)) (none x (zero, omega arith, refl))

@@ -6,3 +6,8 @@ pub mod SignalAddresses
 pub mod SplitSteps
 pub mod LeftOut
 pub mod KeptOnes
+pub mod Counted
+pub mod ShortRanges
+pub mod Tallies
+pub mod CountedSteps
+pub mod CountedWhole

@@ -7,7 +7,11 @@ pub mod Section
 pub mod Signals
 -- what is kept of a section if bad records are left out
 pub mod KeptRecords
+-- what a section contains, in numbers
+pub mod Counts
 -- ---- Internal.
 
 -- what is known while records are split
 pub mod Splitting
+-- what is known while records are counted
+pub mod Counting

@@ -55,7 +55,7 @@ struct Split<'a> {
 
 /// The index of the CIE that begins at `offset`, by binary search. `None` means that no CIE begins
 /// there. The CIEs must be in order of offset.
-fn place_of_cie(cies: &[CommonInformationEntry<'_>], offset: u64) -> Option<usize>
+pub(crate) fn place_of_cie(cies: &[CommonInformationEntry<'_>], offset: u64) -> Option<usize>
     requires { Ascends cie_offset (map cie_of cies.now) }
     ensures { MatchOption result
         (cie_at (map cie_of cies.now) offset ≡ None)
