@@ -115,7 +115,9 @@ fn counted(tally: &Tally<'_>) -> SectionCounts
 }
 
 /// Counts what a section contains that has no fault and no copies of FDEs, and keeps no FDE. `None` if
-/// it may have some, or addresses that are far from it.
+/// it may have some, or addresses that are far from it. This function isn't inlined: so it takes no
+/// stack beside that of the whole check after it.
+#[inline(never)]
 fn count_records(
     alloc: Global,
     section: &[u8],

@@ -10,12 +10,12 @@ ghost use Rattle.dwcheck_c.specs.ModuleChecks.{AreCountsBy, AreCountsOf, IsEhAcc
 ghost use Rattle.dw_process.specs.EhModules.{IsEhFault, IsWholeFault};
 
 use crate::module::{CModule, SectionKind, section_kind};
-use crate::reports::{CCounts, frame_counted};
+use crate::reports::{CCounts, counts_shown, frame_counted};
 use dw_bytes::{Fault, FaultKind, Target};
 use dw_c_types::fault::{CFault, IN_FRAME, report};
 use dw_c_types::status::{BAD_KIND, BAD_TARGET, DONE, NO_MEMORY, REFUSED, TOO_LONG};
 use dw_c_types::target::target;
-use dw_eh_rows::{check_eh_frame, check_eh_frame_leaving_out};
+use dw_eh_rows::{check_eh_frame_leaving_out, count_eh_frame};
 use dw_process::EhSection;
 use dw_rows::check_frame;
 use std::alloc::Global;
@@ -31,8 +31,8 @@ fn eh_frame_counts(alloc: Global, section: EhSection<'_>, target: Target) -> Res
         bases,
         is_aarch64,
     } = section;
-    let frame = check_eh_frame(alloc, bytes, target, bases, is_aarch64)?;
-    Ok(frame_counted(&frame))
+    let counts = count_eh_frame(alloc, bytes, target, bases, is_aarch64)?;
+    Ok(counts_shown(&counts))
 }
 
 /// Checks an `.eh_frame` section without its bad records, and counts what is kept.

@@ -5,7 +5,8 @@ ghost use Rattle.std.specs.Prelude.{◌≡◌, ◌≢◌, ◌⊎◌, ◌++◌, �
 ghost use Rattle.std.specs.Option.{IsSomeAnd};
 ghost use Rattle.dw_sections.specs.Checked.{AreWellFormed, check_fault};
 ghost use Rattle.dw_loclists.specs.Reading.{located_in};
-ghost use Rattle.dw_rows.specs.Section.{frame_of};
+ghost use Rattle.dw_rows.specs.Section.{FrameSection, frame_of};
+ghost use Rattle.dw_eh_rows.specs.Counts.{AreCountsOf};
 ghost use Rattle.dw_stack.specs.Located.{all_located, located_of};
 ghost use Rattle.dw_c_types.specs.Slots.{put_into};
 ghost use Rattle.dw_c_types.specs.Targets.{target_by};
@@ -19,6 +20,7 @@ use dw_c_types::fault::{CFault, IN_FRAME, IN_LISTS, report};
 use dw_c_types::slots::put;
 use dw_c_types::status::{BAD_TARGET, DONE, NO_MEMORY, REFUSED};
 use dw_c_types::target::target;
+use dw_eh_rows::SectionCounts;
 use dw_loclists::Expressions;
 use dw_rows::CheckedFrame;
 use dw_sections::{Checked, check};
@@ -136,6 +138,21 @@ pub(crate) fn frame_counted(frame: &CheckedFrame<'_>) -> CCounts
         fdes: frame.fdes().len() as u64,
         rows: row_number(frame.row_count()),
         frame_expressions: frame.expressions().len() as u64,
+        tables: 0,
+        lists: 0,
+        list_expressions: 0,
+    }
+}
+
+/// How much a checked `.eh_frame` section contains, as C gets it.
+pub(crate) fn counts_shown(counts: &SectionCounts) -> CCounts
+    ensures { (frame : FrameSection) → AreCountsOf frame counts.now → result ≡ frame_counts frame }
+{
+    CCounts {
+        cies: counts.cies as u64,
+        fdes: counts.fdes as u64,
+        rows: row_number(counts.rows),
+        frame_expressions: counts.expressions as u64,
         tables: 0,
         lists: 0,
         list_expressions: 0,
