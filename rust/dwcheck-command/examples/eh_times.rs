@@ -1,6 +1,7 @@
 //! Times the library and gimli on the `.eh_frame` section of each program, in one process and in turn: the check
 //! of the section beside all rows by gimli, compiling it, and look-ups in the compiled table beside gimli's by
-//! `.eh_frame_hdr`. Each time is the least of seven, in milliseconds, or nanoseconds for a look-up.
+//! `.eh_frame_hdr`. Each time is the least of seven, in milliseconds, or nanoseconds for a look-up. Memory is by how much the
+//! most that this process has had grows with the first check, so it says something of the first program alone.
 //!
 //! ```text
 //! cargo run --release --example eh_times /usr/lib/x86_64-linux-gnu/libLLVM-14.so.1
@@ -106,6 +107,13 @@ fn least<T>(mut run: impl FnMut() -> Result<T, Failure>) -> Result<(Duration, T)
     Ok(all.swap_remove(0))
 }
 
+/// The most memory that this process has had, in bytes (VmHWM of proc(5)).
+fn peak_memory() -> Result<u64, Failure> {
+    let status = std::fs::read_to_string("/proc/self/status")?;
+    let peak = status.lines().find_map(|line| line.strip_prefix("VmHWM:")).ok_or("no VmHWM")?;
+    Ok(peak.trim().trim_end_matches(" kB").parse::<u64>()? * 1024)
+}
+
 /// As many addresses of rows as are looked up, in an order without a pattern.
 fn shuffled(starts: &[u64]) -> Vec<u64> {
     let mut state = 0x9e37_79b9_7f4a_7c15u64;
@@ -122,6 +130,9 @@ fn compare(path: &str) -> Result<(), Failure> {
     let data = std::fs::read(path)?;
     let file = object::File::parse(&*data)?;
     let sections = Sections::read(&file)?;
+    let before = peak_memory()?;
+    sections.ours().check()?;
+    let memory = peak_memory()?.saturating_sub(before);
     let (check, contents) = least(|| Ok(sections.ours().check()?))?;
     let (gimli, (count, starts)) = least(|| sections.rows())?;
     let (add, process) = least(|| sections.process())?;
@@ -135,11 +146,12 @@ fn compare(path: &str) -> Result<(), Failure> {
     );
     let milliseconds = |time: Duration| time.as_secs_f64() * 1e3;
     println!(
-        "  check {:.2}, all rows by gimli {:.2}: {:.2}; add to a process {:.2}",
+        "  check {:.2}, all rows by gimli {:.2}: {:.2}; add to a process {:.2}; memory of a check {:.2} for a byte",
         milliseconds(check),
         milliseconds(gimli),
         check.as_secs_f64() / gimli.as_secs_f64(),
-        milliseconds(add)
+        milliseconds(add),
+        memory as f64 / sections.eh_frame.len() as f64
     );
     compare_look_ups(&sections, &process, &shuffled(&starts))
 }
