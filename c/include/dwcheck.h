@@ -215,8 +215,9 @@ uint32_t dwcheck_module_at(const dwcheck_process *process, uint64_t address, dwc
 /* ---- the section of a module --------------------------------------------------------------------------------------- */
 /* Checks a module's section as dwcheck_process_add does, but adds it nowhere. DONE writes what the section contains to
    `counts`, where exact copies of an FDE count once. Returns DONE, or for the same reasons as dwcheck_process_add
-   TOO_LONG, BAD_KIND, BAD_TARGET, REFUSED or NO_MEMORY. Of `module`, this call and the next two use `frame`,
-   frame_length, `order`, address_size, `kind`, and the three fields at the end. */
+   TOO_LONG, BAD_KIND, BAD_TARGET, REFUSED or NO_MEMORY. While it checks an .eh_frame section that has no fault and no
+   exact copies of FDEs, it keeps its CIEs, and eight bytes for each FDE. Of `module`, this call and the next two use
+   `frame`, frame_length, `order`, address_size, `kind`, and the three fields at the end. */
 uint32_t dwcheck_module_check(const dwcheck_module *module, dwcheck_counts *counts, dwcheck_fault *fault);
 
 /* A record that is left out: the offset of its first byte, and the first reason why it is. The fault's own offset may
