@@ -1,19 +1,18 @@
 -- Lemmas about the row of an address, from the module whose range contains the address.
 use Rattle.std.proofs.Common.{◌≡◌, ℕ, suc, List, [], ◌∷◌, Bool, true, false, Option, Some, None, refl, sym, subst, ap, ◌∙◌, arith}
-use Rattle.std.specs.Prelude.{◌↔◌, cond, Contains}
+use Rattle.std.specs.Prelude.{◌↔◌, cond, Contains, IfSome}
 use Rattle.std.specs.Option.{option_and_then, option_map}
 use Rattle.std.proofs.lemmas.List.Elements.{All-contains}
 use Rattle.dw_bytes.specs.declared.target.Target.{Target}
 use Rattle.dw_rules.specs.Abi.{Abi}
 use Rattle.dw_rules.specs.Rules.{Row}
-use Rattle.dw_tables.specs.UnwindTables.{row_at}
 use Rattle.dw_rows.specs.RowLookups.{IsRowUnder}
 use Rattle.dw_unwind.specs.Caller.{Caller, UnwindsBy, machine}
 use Rattle.dw_unwind.specs.Modules.{as_linked}
 use Rattle.dw_unwind.specs.Walks.{over_rows}
 use Rattle.dw_process.specs.declared.loaded_module.LoadedModule.{LoadedModule}
 use Rattle.dw_process.specs.ModuleMaps.{is_in, module_at}
-use Rattle.dw_process.specs.Processes.{AreModulesOf, IsFoundIn, ProcessState, found_at, found_with, row_in, row_of_module}
+use Rattle.dw_process.specs.Processes.{AreModulesOf, IsFoundIn, ProcessState, found_at, found_with, linked_row, row_in, row_of_module}
 
 some_inside : {X : Type 0} (x y : X) → Some x ≡ Some y → x ≡ y
 some_inside x y is = cc
@@ -37,28 +36,36 @@ found_inside (n ∷ modules) a m is = by_test (is_in n.range a) refl is (found_i
 
 module _ (p : ProcessState) (are : AreModulesOf p.target p.next_id p.modules) (a : ℕ) where
   pub nothing : None ≡ module_at p.modules a → None ≡ row_in p a
-  nothing is = ap (λ (o : Option LoadedModule). option_and_then (λ m. row_at m.rows (as_linked m.rows.target m.load_address a)) o) is
+  nothing is = ap (λ (o : Option LoadedModule). option_and_then (λ m. linked_row m (as_linked m.rows.target m.load_address a)) o) is
 
   pub nothing_found : None ≡ module_at p.modules a → None ≡ found_at p a
   nothing_found is =
-      ap (λ (o : Option LoadedModule). option_and_then (λ m. option_map (found_with p.target m) (row_at m.rows (as_linked m.rows.target m.load_address a))) o) is
+      ap (λ (o : Option LoadedModule). option_and_then (λ m. option_map (found_with p.target m) (linked_row m (as_linked m.rows.target m.load_address a))) o) is
 
   pub its_target : (m : LoadedModule) → Some m ≡ module_at p.modules a → m.rows.target ≡ p.target
   its_target m is = All-contains (λ (m : LoadedModule). m.rows.target ≡ p.target) p.modules m are.targets (found_among p.modules a m is)
 
+  pub its_fallback : (m : LoadedModule) → Some m ≡ module_at p.modules a → IfSome m.fallback (λ table. table.target ≡ p.target)
+  its_fallback m is = All-contains (λ (m : LoadedModule). IfSome m.fallback (λ table. table.target ≡ p.target)) p.modules m are.fallback_targets
+      (found_among p.modules a m is)
+
+  -- the two tables have the same target
+  pub its_targets : (m : LoadedModule) → Some m ≡ module_at p.modules a → IfSome m.fallback (λ table. table.target ≡ m.rows.target)
+  its_targets m is = subst (λ (t : Target). IfSome m.fallback (λ table. table.target ≡ t)) (sym (its_target m is)) (its_fallback m is)
+
   its_row : (m : LoadedModule) → Some m ≡ module_at p.modules a → (o : Option (Row × ℕ))
-      → o ≡ row_at m.rows (as_linked p.target m.load_address a) → o ≡ row_at m.rows (as_linked m.rows.target m.load_address a)
-  its_row m is o row = row ∙ ap (λ (t : Target). row_at m.rows (as_linked t m.load_address a)) (sym (its_target m is))
+      → o ≡ linked_row m (as_linked p.target m.load_address a) → o ≡ linked_row m (as_linked m.rows.target m.load_address a)
+  its_row m is o row = row ∙ ap (λ (t : Target). linked_row m (as_linked t m.load_address a)) (sym (its_target m is))
 
   module _ (m : LoadedModule) (is : Some m ≡ module_at p.modules a) (o : Option (Row × ℕ))
-      (row : o ≡ row_at m.rows (as_linked p.target m.load_address a)) where
+      (row : o ≡ linked_row m (as_linked p.target m.load_address a)) where
     pub its_row_found : option_map (found_with p.target m) o ≡ found_at p a
     its_row_found =
         ap (λ (o : Option (Row × ℕ)). option_map (found_with p.target m) o) (its_row m is o row)
-        ∙ ap (λ (o : Option LoadedModule). option_and_then (λ m. option_map (found_with p.target m) (row_at m.rows (as_linked m.rows.target m.load_address a))) o) is
+        ∙ ap (λ (o : Option LoadedModule). option_and_then (λ m. option_map (found_with p.target m) (linked_row m (as_linked m.rows.target m.load_address a))) o) is
 
   pub its_module : (m : LoadedModule) → Some m ≡ module_at p.modules a → (row : Row) (register : ℕ)
-      → Some (row, register) ≡ row_at m.rows (as_linked p.target m.load_address a) → IsRowUnder m.rows.target row
+      → Some (row, register) ≡ linked_row m (as_linked p.target m.load_address a) → IsRowUnder m.rows.target row
       → IsFoundIn p a (found_with p.target m (row, register))
   its_module m is row register found h = record {
     its_module = m;

@@ -8,13 +8,15 @@ use Rattle.dw_eval.specs.World.{World}
 use Rattle.dw_rules.specs.Abi.{Abi}
 use Rattle.dw_rules.specs.Rules.{Row}
 use Rattle.dw_unwind.specs.Caller.{Caller, UnwindsBy, machine}
-use Rattle.dw_unwind.specs.Modules.{OrElse, over_tables}
+use Rattle.dw_tables.specs.UnwindTables.{RowTable, row_at}
+use Rattle.dw_unwind.specs.Modules.{OrElse, as_linked, over_tables}
 use Rattle.dw_unwind.specs.Walks.{over_rows}
-use Rattle.dw_process.specs.FirstRows.{HasRowInRange, first_row, tables_of}
+use Rattle.dw_unwind.specs.declared.modules.Module.{Module}
+use Rattle.dw_process.specs.FirstRows.{HasRowInRange, first_row, tables_of, with_fallback}
 use Rattle.dw_process.specs.declared.address_range.AddressRange.{AddressRange}
 use Rattle.dw_process.specs.declared.loaded_module.LoadedModule.{LoadedModule}
 use Rattle.dw_process.specs.ModuleMaps.{AreInOrder, is_in, module_at}
-use Rattle.dw_process.specs.Processes.{AreModulesOf, ProcessState, row_in, row_of_module}
+use Rattle.dw_process.specs.Processes.{AreModulesOf, ProcessState, fallback_row, row_in, row_of_module}
 
 tail_in_order : (m : LoadedModule) (modules : List LoadedModule) → AreInOrder (m ∷ modules) → AreInOrder modules
 tail_in_order m modules order = record {
@@ -67,6 +69,10 @@ agree (m ∷ modules) a order has =
         let here = none_of (is_in m.range a) (row_of_module m a) is (has 0 m (omega arith)) in
         rest ∙ sym (ap (λ (o : Option (Row × ℕ)). option_or o (first_row modules a)) here)
 
+or_or : (o p rest : Option (Row × ℕ)) → option_or o (option_or p rest) ≡ option_or (option_or o p) rest
+or_or None p rest = refl
+or_or (Some x) p rest = refl
+
 -- ---- unwinding
 
 module _ (e : World) (abi : Abi) (R : Option Caller → Type 0) (rest : Option (Row × ℕ)) where
@@ -88,19 +94,50 @@ none_by e abi None = (λ h. tt, λ h. refl)
 none_by e abi (Some c) = (λ h. cc, λ h. absurd h)
 
 module _ (target : Target) (abi : Abi) (memory registers : ℕ → Option ℕ) (a : ℕ) where
-  at_target : (modules : List LoadedModule) → All (λ m. m.rows.target ≡ target) modules → (caller : Option Caller)
-      → over_tables abi memory (tables_of modules) registers a caller ↔ UnwindsBy (machine target registers memory) abi (first_row modules a) caller
-  at_target [] all caller = none_by (machine target registers memory) abi caller
-  at_target (m ∷ modules) all caller =
+  -- a table before others: unwinding with all of them is unwinding with the first row
+  one_more : (table : RowTable) (load_address : ℕ) → table.target ≡ target → (others : List (Module RowTable)) (rest : Option (Row × ℕ)) (caller : Option Caller)
+      → over_tables abi memory others registers a caller ↔ UnwindsBy (machine target registers memory) abi rest caller
+      → over_tables abi memory (record { rows = table; load_address = load_address } ∷ others) registers a caller
+      ↔ UnwindsBy (machine target registers memory) abi (option_or (row_at table (as_linked table.target load_address a)) rest) caller
+  one_more table load_address same others rest caller both =
       let e = machine target registers memory in
-      let same : m.rows.target ≡ target = all 0 m (omega arith) in
-      let rest = at_target modules (λ k d lt. all (suc k) d (omega (arith, lt))) caller in
-      let R = over_tables abi memory (tables_of modules) registers a in (
-        λ h. goes e abi R (first_row modules a) (row_of_module m a) h.0 caller rest.0
-            (subst (λ (t : Target). UnwindsBy (machine t registers memory) abi (row_of_module m a) h.0) same h.1) h.2,
-        λ h. let w = comes e abi R (first_row modules a) (row_of_module m a) caller rest.1 h in
-            (w.0, subst (λ (t : Target). UnwindsBy (machine t registers memory) abi (row_of_module m a) w.0) (sym same) w.1, w.2),
+      let row = row_at table (as_linked table.target load_address a) in
+      let R = over_tables abi memory others registers a in (
+        λ h. goes e abi R rest row h.0 caller both.0
+            (subst (λ (t : Target). UnwindsBy (machine t registers memory) abi row h.0) same h.1) h.2,
+        λ h. let w = comes e abi R rest row caller both.1 h in
+            (w.0, subst (λ (t : Target). UnwindsBy (machine t registers memory) abi row w.0) (sym same) w.1, w.2),
       )
+
+  with_second : (fallback : Option RowTable) (load_address : ℕ) → IfSome fallback (λ table. table.target ≡ target)
+      → (others : List (Module RowTable)) (rest : Option (Row × ℕ)) (caller : Option Caller)
+      → over_tables abi memory others registers a caller ↔ UnwindsBy (machine target registers memory) abi rest caller
+      → over_tables abi memory (with_fallback fallback load_address others) registers a caller
+      ↔ UnwindsBy (machine target registers memory) abi (option_or (fallback_row fallback (as_linked target load_address a)) rest) caller
+  with_second None load_address same others rest caller both = both
+  with_second (Some table) load_address same others rest caller both =
+      subst (λ (t : Target). over_tables abi memory (record { rows = table; load_address = load_address } ∷ others) registers a caller
+      ↔ UnwindsBy (machine target registers memory) abi (option_or (row_at table (as_linked t load_address a)) rest) caller)
+      same (one_more table load_address same others rest caller both)
+
+  at_target : (modules : List LoadedModule) → All (λ m. m.rows.target ≡ target) modules
+      → All (λ m. IfSome m.fallback (λ table. table.target ≡ target)) modules → (caller : Option Caller)
+      → over_tables abi memory (tables_of modules) registers a caller ↔ UnwindsBy (machine target registers memory) abi (first_row modules a) caller
+  at_target [] all seconds caller = none_by (machine target registers memory) abi caller
+  at_target (m ∷ modules) all seconds caller =
+      let same : m.rows.target ≡ target = all 0 m (omega arith) in
+      let second : IfSome m.fallback (λ table. table.target ≡ target) = seconds 0 m (omega arith) in
+      let rest = at_target modules (λ k d lt. all (suc k) d (omega (arith, lt))) (λ k d lt. seconds (suc k) d (omega (arith, lt))) caller in
+      let later = with_second m.fallback m.load_address second (tables_of modules) (first_row modules a) caller rest in
+      let both = one_more m.rows m.load_address same (with_fallback m.fallback m.load_address (tables_of modules))
+      (option_or (fallback_row m.fallback (as_linked target m.load_address a)) (first_row modules a)) caller later in
+      let at = as_linked m.rows.target m.load_address a in
+      let is : option_or (row_at m.rows at) (option_or (fallback_row m.fallback (as_linked target m.load_address a)) (first_row modules a))
+      ≡ first_row (m ∷ modules) a
+      = ap (λ (t : Target). option_or (row_at m.rows at) (option_or (fallback_row m.fallback (as_linked t m.load_address a)) (first_row modules a))) (sym same)
+      ∙ or_or (row_at m.rows at) (fallback_row m.fallback at) (first_row modules a) in
+      subst (λ (o : Option (Row × ℕ)). over_tables abi memory (tables_of (m ∷ modules)) registers a caller
+      ↔ UnwindsBy (machine target registers memory) abi o caller) is both
 
 pub unwinds_same : (p : ProcessState) (abi : Abi) (memory registers : ℕ → Option ℕ) (a : ℕ) (caller : Option Caller)
     → AreModulesOf p.target p.next_id p.modules → HaveRowsInRange a p.modules
@@ -108,7 +145,7 @@ pub unwinds_same : (p : ProcessState) (abi : Abi) (memory registers : ℕ → Op
     ↔ over_tables abi memory (tables_of p.modules) registers a caller
 unwinds_same p abi memory registers a caller are has =
     let same : row_in p a ≡ first_row p.modules a = agree p.modules a are.order has in
-    let both = at_target p.target abi memory registers a p.modules are.targets caller in
+    let both = at_target p.target abi memory registers a p.modules are.targets are.fallback_targets caller in
     let e = machine p.target registers memory in (
       λ h. both.1 (subst (λ (o : Option (Row × ℕ)). UnwindsBy e abi o caller) (h.1 ∙ same) h.2),
       λ h. (row_in p a, refl, subst (λ (o : Option (Row × ℕ)). UnwindsBy e abi o caller) (sym same) (both.0 h)),

@@ -6,4 +6,6 @@ pub mod Keeping
 pub mod Finding
 pub mod FirstOnes
 pub mod RowsInRange
+pub mod TwoTables
 pub mod Strides
+pub mod BothRefusals

@@ -55,6 +55,7 @@ some_module = record {
   load_address = 0;
   range = record { first = 0; last = 0 };
   rows = record { target = record { order = Little; address_size = Four }; rows = []; bytes = 0 };
+  fallback = None;
   marks = no_marks;
 }
 

@@ -1,7 +1,7 @@
 -- Lemmas about the addresses from the first to the last one that FDEs cover.
-use Rattle.std.proofs.Common.{◌≡◌, ℕ, ◌+◌, ◌^◌, ◌<◌, ◌≤◌, List, [], ◌∷◌, ◌++◌, Option, Some, None, inl, inr, sym, subst, ap, arith}
+use Rattle.std.proofs.Common.{◌≡◌, ℕ, ◌+◌, ◌^◌, ◌<◌, ◌≤◌, List, [], ◌∷◌, ◌++◌, Option, Some, None, inl, inr, refl, sym, subst, ap, arith}
 use Rattle.std.specs.Prelude.{◌⊎◌, Contains, IfNone, IfSome, MatchOption}
-use Rattle.std.proofs.lemmas.List.Elements.{Contains-append_left, Contains-push, Contains-push_cases}
+use Rattle.std.proofs.lemmas.List.Elements.{Contains-append_cases, Contains-append_left, Contains-append_right, Contains-push, Contains-push_cases}
 use Rattle.dw_bytes.specs.declared.target.AddressSize.{AddressSize}
 use Rattle.dw_bytes.specs.declared.target.AddressSize.TheVariants.{Four, Eight}
 use Rattle.dw_bytes.specs.declared.target.Target.{Target}
@@ -80,6 +80,62 @@ module _ (fdes : List Fde) (f : Fde) where
         | inr new ↦ to_own result.last new
       ];
     }
+
+-- ---- two lists of FDEs
+
+module _ (fdes others : List Fde) where
+  covers_none : CoversNone fdes → CoversNone others → CoversNone (fdes ++ others)
+  covers_none none other_none f a among covered = elim (Contains-append_cases fdes others f among) [
+    | inl first ↦ none f a first covered
+    | inr second ↦ other_none f a second covered
+  ]
+
+  in_first : (a b : ℕ) → a ≡ b → (g : Fde) × Contains fdes g × Covers g b → (g : Fde) × Contains (fdes ++ others) g × Covers g a
+  in_first a b is w = (w.0, Contains-append_left fdes others w.0 w.1, subst (λ (n : ℕ). Covers w.0 n) (sym is) w.2)
+
+  in_second : (a b : ℕ) → a ≡ b → (g : Fde) × Contains others g × Covers g b → (g : Fde) × Contains (fdes ++ others) g × Covers g a
+  in_second a b is w = (w.0, Contains-append_right fdes others w.0 w.1, subst (λ (n : ℕ). Covers w.0 n) (sym is) w.2)
+
+  -- the second list covers nothing
+  pub spans_first : (range : Option AddressRange) → Spans fdes range → CoversNone others → Spans (fdes ++ others) range
+  spans_first None none other_none = covers_none none other_none
+  spans_first (Some range) span other_none = record {
+    all = λ f a among covered. elim (Contains-append_cases fdes others f among) [
+      | inl first ↦ span.all f a first covered
+      | inr second ↦ absurd (other_none f a second covered)
+    ];
+    begins = in_first range.first range.first refl span.begins;
+    ends = in_first range.last range.last refl span.ends;
+  }
+
+  -- the smallest range that has all addresses of both ranges
+  pub spans_both : (range : Option AddressRange) (other result : AddressRange) → Spans fdes range → IsSpanOf others other
+      → IfNone range (result ≡ other)
+      → IfSome range (λ r. (result.first ≤ r.first) × ((result.first ≡ r.first) ⊎ (result.first ≡ other.first)))
+      → IfSome range (λ r. (r.last ≤ result.last) × ((result.last ≡ r.last) ⊎ (result.last ≡ other.last)))
+      → result.first ≤ other.first → other.last ≤ result.last → IsSpanOf (fdes ++ others) result
+  spans_both None other result none span is low high low_other high_other = record {
+    all = λ f a among covered. elim (Contains-append_cases fdes others f among) [
+      | inl first ↦ absurd (none f a first covered)
+      | inr second ↦ let o = span.all f a second covered in (omega (arith, o, low_other), omega (arith, o, high_other))
+    ];
+    begins = in_second result.first other.first (ap (λ (r : AddressRange). r.first) is) span.begins;
+    ends = in_second result.last other.last (ap (λ (r : AddressRange). r.last) is) span.ends;
+  }
+  spans_both (Some r) other result first_span span is low high low_other high_other = record {
+    all = λ f a among covered. elim (Contains-append_cases fdes others f among) [
+      | inl first ↦ let o = first_span.all f a first covered in (omega (arith, o, low.0), omega (arith, o, high.0))
+      | inr second ↦ let o = span.all f a second covered in (omega (arith, o, low_other), omega (arith, o, high_other))
+    ];
+    begins = elim low.1 [
+      | inl old ↦ in_first result.first r.first old first_span.begins
+      | inr new ↦ in_second result.first other.first new span.begins
+    ];
+    ends = elim high.1 [
+      | inl old ↦ in_first result.last r.last old first_span.ends
+      | inr new ↦ in_second result.last other.last new span.ends
+    ];
+  }
 
 -- ---- the greatest address
 

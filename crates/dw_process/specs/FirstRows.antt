@@ -1,6 +1,6 @@
 -- The first module that has a row for an address, in a list of modules in any order and with no
 -- ranges. If each module has rows only in its range, that is the module of the address.
-use Rattle.std.specs.Prelude.{◌≡◌, ℕ, true, List, [], ◌∷◌, map, IfSome, Option, None}
+use Rattle.std.specs.Prelude.{◌≡◌, ℕ, true, List, [], ◌∷◌, IfSome, Option, Some, None}
 use Rattle.std.specs.Option.{option_or}
 use Rattle.dw_rules.specs.Rules.{Row}
 use Rattle.dw_tables.specs.UnwindTables.{RowTable}
@@ -18,6 +18,13 @@ first_row (m ∷ modules) address = option_or (row_of_module m address) (first_r
 abbrev pub HasRowInRange : ℕ → LoadedModule → Type 0
 HasRowInRange address m = IfSome (row_of_module m address) (λ found. is_in m.range address ≡ true)
 
--- the modules without their ranges, as `over_tables` takes them
+-- the second table of a module, if it has one, before those of other modules
+abbrev pub with_fallback : Option RowTable → ℕ → List (Module RowTable) → List (Module RowTable)
+with_fallback None load_address others = others
+with_fallback (Some table) load_address others = record { rows = table; load_address = load_address } ∷ others
+
+-- the tables of the modules without the modules' ranges, as `over_tables` takes them: a module's
+-- second table comes after its first one
 abbrev pub tables_of : List LoadedModule → List (Module RowTable)
-tables_of modules = map (λ m. record { rows = m.rows; load_address = m.load_address }) modules
+tables_of [] = []
+tables_of (m ∷ modules) = record { rows = m.rows; load_address = m.load_address } ∷ with_fallback m.fallback m.load_address (tables_of modules)

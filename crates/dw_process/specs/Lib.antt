@@ -12,5 +12,7 @@ pub mod FirstRows
 pub mod Refusals
 -- modules whose rows come from an `.eh_frame` section
 pub mod EhModules
+-- modules with both sections
+pub mod BothSections
 -- a cache of hints
 pub mod RowCaches

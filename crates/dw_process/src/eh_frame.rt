@@ -32,7 +32,7 @@ pub struct EhSection<'a> {
 
 /// The marks of a checked section with these signal frames. Only programs for aarch64 say where
 /// return addresses are signed.
-fn marks_with(
+pub(crate) fn marks_with(
     alloc: Global,
     frame: &CheckedFrame<'_>,
     signals: Vec<SignalRange>,

@@ -222,6 +222,10 @@ impl ModuleMap {
         let mut modules = Vec::with_capacity(alloc, self.modules.len()).ok()?;
         for module in &self.modules {
             let rows = module.rows.share()?;
+            let fallback = match &module.fallback {
+                Some(table) => Some(table.share()?),
+                None => None,
+            };
             let marks = module.marks.share()?;
             let shared = LoadedModule {
                 id: module.id,
@@ -229,6 +233,7 @@ impl ModuleMap {
                 load_address: module.load_address,
                 range: module.range,
                 rows,
+                fallback,
                 marks,
             };
             modules.push(shared).ok()?;

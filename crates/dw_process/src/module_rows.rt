@@ -16,27 +16,29 @@ use std::marker::Model;
 /// signed there. With this it looks the module up only once (`Process::module_near`).
 #[derive(Drop)]
 pub struct ModuleRows<'p> {
-    /// The target of the module's table, and of its process.
+    /// The target of the module's tables, and of its process.
     target: Target,
     module: &'p LoadedModule,
 }
 
 impl<'p> Model for ModuleRows<'p> {
-    ghost use Rattle.std.specs.Prelude.{◌≡◌};
+    ghost use Rattle.std.specs.Prelude.{◌≡◌, IfSome};
     ghost use Rattle.dw_process.specs.declared.loaded_module.LoadedModule.{LoadedModule};
 
     ghost Value = { LoadedModule };
 
     ghost view = { λ m. m.module.now };
 
-    ghost invariant = { λ m. m.module.now.rows.target ≡ m.target };
+    ghost invariant = { λ m. (m.module.now.rows.target ≡ m.target)
+        × IfSome m.module.now.fallback (λ table. table.target ≡ m.target) };
 }
 
 impl<'p> ModuleRows<'p> {
-    /// The rows of a module whose table has this target.
+    /// The rows of a module whose tables have this target.
     #[inline(always)]
     pub(crate) fn new(target: Target, module: &'p LoadedModule) -> Self
-        requires { module.now.rows.target ≡ target }
+        requires rows { module.now.rows.target ≡ target }
+        requires fallback { IfSome module.now.fallback (λ table. table.target ≡ target) }
         ensures { result ≡ module.now }
     {
         ModuleRows { target, module }
@@ -50,8 +52,7 @@ impl<'p> ModuleRows<'p> {
         ensures under { IfSome result (λ found. IsRowUnder self.now.rows.target found.0) }
     {
         let linked = as_linked(self.target, self.module.load_address, address);
-        let hint = &mut slot.hint.entry_count;
-        self.module.rows.row_and_return_register_near(linked, hint)
+        self.module.row_near(linked, &mut slot.hint.entry_count)
     }
 
     /// Whether an address as loaded is one of a signal frame (`Process::is_signal_frame`).
@@ -60,7 +61,7 @@ impl<'p> ModuleRows<'p> {
         ensures { result ≡ is_signal_in_module (Some self.now) address }
     {
         let linked = as_linked(self.target, self.module.load_address, address);
-        self.module.marks.is_signal_frame(linked)
+        self.module.is_signal_frame(linked)
     }
 
     /// Whether the return address is signed at an address as loaded (`Process::is_signed`).
@@ -69,7 +70,7 @@ impl<'p> ModuleRows<'p> {
         ensures { result ≡ is_signed_in_module (Some self.now) address }
     {
         let linked = as_linked(self.target, self.module.load_address, address);
-        self.module.marks.is_signed(linked)
+        self.module.is_signed(linked)
     }
 }
 

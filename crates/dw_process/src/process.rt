@@ -2,34 +2,35 @@
 
 ghost use Rattle.std.specs.List.{list_any, position};
 ghost use Rattle.std.specs.Option.{option_map};
-ghost use Rattle.std.specs.Prelude.{◌==◌, ◌≡◌, ◌<◌, ◌^◌, All, IfErr, IfOk, IfSome, Some, length};
-ghost use Rattle.dw_process.specs.ModuleMaps.{AreInOrder, module_at};
-ghost use Rattle.dw_process.specs.Processes.{AreDistinct, IsAdded, IsAddedWith, IsFoundIn, IsReady, found_at, is_signal_in, is_signed_in, no_modules, removed};
+ghost use Rattle.std.specs.Prelude.{◌==◌, ◌≡◌, ◌<◌, ◌^◌, All, IfErr, IfNone, IfOk, IfSome, Some, length};
+ghost use Rattle.dw_process.specs.BothSections.{AreAddedWith, AreRefusedWith};
+ghost use Rattle.dw_process.specs.ModuleMaps.{AreInOrder, IsPlaceFor, IsProper, module_at};
+ghost use Rattle.dw_process.specs.Processes.{AreDistinct, IsAdded, IsAddedWith, IsFoundIn, IsInserted, found_at, is_signal_in, is_signed_in, module_of, no_modules, removed};
 ghost use Rattle.dw_process.specs.Marks.{marks_of};
 ghost use Rattle.dw_process.specs.Refusals.{IsRefused, IsRefusedWith};
 
 use crate::address_range::AddressRange;
+use crate::both_sections::TableRooms;
 use crate::found_row::FoundRow;
 use crate::loaded_module::LoadedModule;
 use crate::module_map::ModuleMap;
 use crate::module_rows::ModuleRows;
-use crate::ranges::range_for;
-use crate::refusal::Refusal;
+use crate::ready_module::{ReadyModule, prepare, prepare_both};
+use crate::refusal::{BothRefusal, Refusal};
 use crate::row_cache::ProcessSlot;
 use crate::shared_marks::{FrameMarks, SharedMarks};
-use crate::shared_table::SharedTable;
 use dw_bytes::{OUT_OF_MEMORY, Target};
 use dw_rows::{CheckedFrame, check_frame};
 use dw_rules::UnwindRow;
 use dw_signed_rows::SignedRanges;
-use dw_tables::UnwindTable;
 use dw_unwind::{UnwindRows, as_linked};
 use std::alloc::Global;
 use std::marker::Model;
 
-/// The modules of a process: its executable and its libraries. Each module has a compiled table, a
-/// load address, and a range of addresses as loaded, which no other module shares. The module of an
-/// address is the one whose range contains it, and is found in O(log n) steps among n modules.
+/// The modules of a process: its executable and its libraries. Each module has a compiled table, or
+/// one of each of its two sections, a load address, and a range of addresses as loaded, which no
+/// other module shares. The module of an address is the one whose range contains it, and is found in
+/// O(log n) steps among n modules.
 ///
 /// A `Process` borrows nothing: a module's section may be dropped once the module is added. `share`
 /// makes another `Process` with the same tables and doesn't copy them. A `&Process` is an
@@ -59,46 +60,6 @@ fn place_of(modules: &[LoadedModule], id: u64) -> Option<usize>
     modules.iter().position(|loaded| loaded.id == id)
 }
 
-/// A module that isn't yet added to a process.
-#[derive(Drop)]
-struct ReadyModule {
-    /// The module's range.
-    range: AddressRange,
-    /// The index at which the module may be inserted.
-    place: usize,
-    /// The module's rows.
-    rows: SharedTable,
-}
-
-/// Compiles a checked section, and finds the module's range and its place.
-fn prepare(
-    alloc: Global,
-    modules: &ModuleMap,
-    frame: &CheckedFrame<'_>,
-    load_address: u64,
-    given: Option<AddressRange>,
-    room: usize,
-) -> Result<ReadyModule, Refusal>
-    ensures ready { IfOk result (IsReady frame.now load_address given room modules.now) }
-    ensures refused { IfErr result
-        (IsRefusedWith frame.now load_address given room modules.now) }
-{
-    let Some(range) = range_for(frame, load_address, given) else {
-        return Err(Refusal::Range);
-    };
-    let place = match modules.place_for(range) {
-        Ok(place) => place,
-        Err(id) => return Err(Refusal::Overlaps(id)),
-    };
-    let Some(table) = UnwindTable::compile(alloc, frame, room)? else {
-        return Err(Refusal::Room);
-    };
-    match SharedTable::new(alloc, table) {
-        Some(rows) => Ok(ReadyModule { range, place, rows }),
-        None => Err(Refusal::Section(OUT_OF_MEMORY)),
-    }
-}
-
 impl Process {
     /// A process without modules. Its modules' sections are encoded for `target`.
     pub fn new(alloc: Global, target: Target) -> Self
@@ -126,6 +87,8 @@ impl Process {
         ensures ids { AreDistinct self.now.modules }
         ensures given { All (λ m. m.id < self.now.next_id) self.now.modules }
         ensures targets { All (λ m. m.rows.target ≡ self.now.target) self.now.modules }
+        ensures fallback_targets { All (λ m. IfSome m.fallback
+            (λ table. table.target ≡ self.now.target)) self.now.modules }
     {
         self.modules.as_slice()
     }
@@ -212,27 +175,87 @@ impl Process {
         ensures same { IfErr result (λ _. self.new ≡ self.old) }
     {
         let ready = prepare(alloc, &self.modules, frame, load_address, range, room)?;
-        let Some(marks) = SharedMarks::new(alloc, marks) else {
-            return Err(Refusal::Section(OUT_OF_MEMORY));
-        };
+        match self.insert_ready(alloc, ready, marks, load_address, cookie) {
+            Some(id) => Ok(id),
+            None => Err(Refusal::Section(OUT_OF_MEMORY)),
+        }
+    }
+
+    /// Adds a module with the rows of two checked sections, and with these marks, which are those of
+    /// `eh_frame`. The other arguments are those of `add_both`.
+    pub(crate) fn add_both_checked(
+        &mut self,
+        alloc: Global,
+        debug_frame: &CheckedFrame<'_>,
+        eh_frame: &CheckedFrame<'_>,
+        marks: FrameMarks,
+        load_address: u64,
+        range: Option<AddressRange>,
+        cookie: u64,
+        rooms: TableRooms,
+    ) -> Result<u64, BothRefusal>
+        requires debug_frame { debug_frame.now.target ≡ self.old.target }
+        requires eh_frame { eh_frame.now.target ≡ self.old.target }
+        ensures added { IfOk result
+            (λ id. AreAddedWith debug_frame.now eh_frame.now (marks_of marks) load_address range
+            cookie rooms self.old id self.new) }
+        ensures refused { IfErr result
+            (AreRefusedWith debug_frame.now eh_frame.now load_address range rooms
+            self.old.modules) }
+        ensures same { IfErr result (λ _. self.new ≡ self.old) }
+    {
+        let ready = prepare_both(
+            alloc,
+            &self.modules,
+            debug_frame,
+            eh_frame,
+            load_address,
+            range,
+            rooms,
+        )?;
+        match self.insert_ready(alloc, ready, marks, load_address, cookie) {
+            Some(id) => Ok(id),
+            None => Err(BothRefusal::Memory),
+        }
+    }
+
+    /// Adds a module that is ready, with these marks. Returns its id; none if memory ran out, or if
+    /// no further id is left.
+    fn insert_ready(
+        &mut self,
+        alloc: Global,
+        ready: ReadyModule,
+        marks: FrameMarks,
+        load_address: u64,
+        cookie: u64,
+    ) -> Option<u64>
+        requires proper { IsProper ready.range }
+        requires place { IsPlaceFor ready.range self.old.modules ready.place }
+        requires rows { ready.rows.target ≡ self.old.target }
+        requires fallback { IfSome ready.fallback (λ table. table.target ≡ self.old.target) }
+        ensures inserted { IfSome result
+            (λ id. IsInserted (module_of ready (marks_of marks) load_address cookie id)
+            (marks_of marks) load_address cookie self.old id self.new) }
+        ensures same { IfNone result (self.new ≡ self.old) }
+    {
+        let marks = SharedMarks::new(alloc, marks)?;
         let id = self.next_id;
-        let Some(next_id) = id.checked_add(1) else {
-            return Err(Refusal::Section(OUT_OF_MEMORY));
-        };
+        let next_id = id.checked_add(1)?;
         let added = LoadedModule {
             id,
             cookie,
             load_address,
             range: ready.range,
             rows: ready.rows,
+            fallback: ready.fallback,
             marks,
         };
         match self.modules.insert(ready.place, added) {
             Ok(()) => {
                 self.next_id = next_id;
-                Ok(id)
+                Some(id)
             }
-            Err(_) => Err(Refusal::Section(OUT_OF_MEMORY)),
+            Err(_) => None,
         }
     }
 
@@ -264,10 +287,7 @@ impl Process {
             return None;
         };
         let linked = as_linked(self.target, found.load_address, address);
-        match found
-            .rows
-            .row_and_return_register_near(linked, &mut slot.hint.entry_count)
-        {
+        match found.row_near(linked, &mut slot.hint.entry_count) {
             Some((row, return_register)) => Some(FoundRow {
                 id: found.id,
                 cookie: found.cookie,
@@ -294,6 +314,7 @@ impl Process {
             return None;
         };
         let linked = as_linked(self.target, found.load_address, address);
+        // A module's first table is asked before its second one.
         let (row, return_register) = found.rows.usual_row_and_return_register(linked)?;
         Some(FoundRow {
             id: found.id,

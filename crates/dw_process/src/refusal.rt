@@ -1,4 +1,4 @@
-//! The error of `Process::add`.
+//! The errors of `Process::add` and `Process::add_both`.
 
 ghost use Rattle.std.specs.Prelude.{◌≡◌};
 ghost use Rattle.dw_process.specs.declared.refusal.Refusal.TheVariants as variants;
@@ -27,4 +27,21 @@ impl From<Fault> for Refusal {
     fn from(fault: Fault) -> Self {
         Refusal::Section(fault)
     }
+}
+
+/// Why `Process::add_both` doesn't add a module.
+#[derive(Clone, Copy, Debug, PartialEq, Eq)]
+pub enum BothRefusal {
+    /// The first fault of the module's `.debug_frame`.
+    DebugFrame(Fault),
+    /// The fault of the module's `.eh_frame`. Its `.debug_frame` has none.
+    EhFrame(Fault),
+    /// Memory ran out.
+    Memory,
+    /// The compiled table of one of the sections may need more bytes than the argument `rooms` allows.
+    Room,
+    /// The module has no range, as with `Refusal::Range`.
+    Range,
+    /// The module's range shares an address with the range of the module that has this id.
+    Overlaps(u64),
 }

@@ -1,6 +1,6 @@
 //! A compiled table that several processes share.
 
-ghost use Rattle.std.specs.Prelude.{◌≡◌, IfSome};
+ghost use Rattle.std.specs.Prelude.{◌≡◌, IfSome, is_some};
 ghost use Rattle.dw_tables.specs.UnwindTables.{row_at};
 ghost use Rattle.dw_rows.specs.RowLookups.{IsRowUnder};
 
@@ -52,6 +52,13 @@ impl SharedTable {
         ensures { result ≡ self.now.target }
     {
         self.table.target()
+    }
+
+    /// Whether the table has a row at an address.
+    pub fn has_row(&self, address: u64) -> bool
+        ensures { result ≡ is_some (row_at self.now address) }
+    {
+        self.table.row_and_return_register(address).is_some()
     }
 
     /// The table's row at an address, with its return address register, if it is a usual one: see
