@@ -86,6 +86,14 @@ static dwcheck_rows filled, before;
 /* ---- damaged sections and headers */
 static uint64_t damaged[16];
 
+/* The number in the CFA's expression of an entry of a PLT. */
+static uint64_t plt_limit(const dwcheck_module *module, const dwcheck_row *row)
+{
+    const uint8_t *bytes = module->frame + row->cfa.offset;
+    if (row->cfa.length != 11 || bytes[0] != 0x77 || bytes[10] != 0x22) differs("the length of an expression that is kept", row->cfa.length, 11);
+    return bytes[6] - (uint64_t)0x30;
+}
+
 /* A fill returns what dwcheck_row_in returns, or NO_PLACE in place of DONE; and a walk with the row that is kept has the
    CFA, the return address and rbp of that row. */
 static void fill_damaged(dwcheck_rows *rows)
@@ -146,6 +154,10 @@ static void fill_damaged(dwcheck_rows *rows)
     size_t count;
     uint32_t stop;
     uint64_t cfa = (row.cfa.reg == 6 ? place.frame_pointer : place.stack_pointer) + (uint64_t)row.cfa.offset;
+    if (have == DWCHECK_DONE && row.cfa.kind == DWCHECK_RULE_VAL_EXPRESSION) { /* that of an entry of a PLT */
+        row.cfa.reg = 7;
+        cfa = place.stack_pointer + 8 + (address % 16 >= plt_limit(&module, &row) ? 8 : 0);
+    }
     const dwcheck_block block = {cfa - 8, (const uint8_t *)&word, 8};
     if (have == DWCHECK_DONE) {
         bool is_last = row.count == 1 && rules[0].reg == 16 && rules[0].kind == DWCHECK_RULE_UNDEFINED;

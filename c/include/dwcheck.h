@@ -481,7 +481,10 @@ typedef struct dwcheck_rows { uint64_t words[3361]; } dwcheck_rows;
    `slot` % 64. The row may take the place of another one. Returns DONE; NO_PLACE if there is a row that can't be kept,
    at which walks stop: one with an expression, say, or that of a signal frame, or any row of another target than
    little-endian with addresses of 8 bytes; or any other status that dwcheck_row_in returns, and then the rows are as
-   they were. The call takes as much stack as the next one where that has the answer, and else as dwcheck_row_in. */
+   they were. The expression that linkers write for the CFA in a procedure linkage table is no such one: the row is kept
+   for this address, with the CFA that it gives if rip has this address or, as in a caller, the next one; if these
+   differ, the call returns NO_PLACE. The call takes as much stack as the next one where that has the answer, and else as
+   dwcheck_row_in. */
 uint32_t dwcheck_rows_fill(dwcheck_rows *rows, uint32_t slot, const dwcheck_module *module, const dwcheck_header *header,
                            uint64_t address, dwcheck_fault *fault);
 
@@ -519,7 +522,8 @@ enum {
    why there are no more: LIMIT, RETURN_UNDEFINED, RETURN_UNREADABLE, MISSING or OTHER; a last frame that fills the array
    has its own reason, not LIMIT. `place` becomes that of the next frame, from which a walk can go on; after
    RETURN_UNDEFINED and RETURN_UNREADABLE it has no meaning. The frames are those of the definition of walks, with these
-   rows and with x86-64's callee-saved registers. Nothing is allocated, so the call may be made in a signal handler. */
+   rows and with x86-64's callee-saved registers; rip has the `address` of each frame. Nothing is allocated, so the call
+   may be made in a signal handler. */
 void dwcheck_walk(dwcheck_rows *rows, uint64_t confirmed, dwcheck_place *place, const dwcheck_block *blocks,
                   size_t blocks_length, uint64_t *addresses, size_t addresses_length, size_t *count, uint32_t *stop);
 

@@ -405,6 +405,41 @@ static void rows_that_have_no_place(void) {
     has_no_place(&near);
 }
 
+/* In an entry of a procedure linkage table the CFA is rsp + 8, and rsp + 16 once the entry has pushed a number. Its row
+   is kept by address, where it is the same if the next address is in rip, as in a caller. */
+static void rows_of_linkage_tables_are_kept(void) {
+    static const struct { const char *program; uint64_t limit; } tables[] = {
+        {"0f0b770880003f1a3b2a332422", 11}, {"0f0b770880003f1a392a332422", 9}, {"0f0b770880003f1a352a332422", 5}};
+    static const uint64_t word = LOAD + FIRST + 5;
+    for (size_t i = 0; i < sizeof tables / sizeof *tables; i++) {
+        const struct section made = plain_with(tables[i].program);
+        for (uint64_t at = LOAD + PLAIN; at < LOAD + PLAIN + 32; at++) {
+            const uint64_t in_entry = at % 16, cfa = 0x7008 + (in_entry >= tables[i].limit ? 8 : 0);
+            const dwcheck_block at_cfa = {cfa - 8, (const uint8_t *)&word, 8};
+            const int is_kept = in_entry + 1 != tables[i].limit && in_entry != 15;
+            memset(&rows, 0, sizeof rows);
+            IS(fill(1, &made, at), is_kept ? DWCHECK_DONE : DWCHECK_NO_PLACE);
+            for (uint64_t address = at; address <= at + 1; address++) { /* a frame that is looked up itself, and a caller */
+                dwcheck_place place = at_plain;
+                place.address = address, place.key = at + 1;
+                walk(&place, 1 << 1, &at_cfa, 1, 1);
+                IS(stop, is_kept ? DWCHECK_STOP_LIMIT : DWCHECK_STOP_OTHER);
+                IS(count, is_kept);
+                if (is_kept) IS(is_caller(&place, word, cfa, 0x7030, 0), 1);
+            }
+        }
+    }
+    static const char *const others[] = {
+        "0f0b770880003f1a372a332422",  /* with another number */
+        "0f0b771080003f1a3b2a332422",  /* with another offset */
+        "0f0a770880003f1a3b2a3324",    /* without the sum */
+        "0f0c770880003f1a3b2a33242296" /* with DW_OP_nop */};
+    for (size_t i = 0; i < sizeof others / sizeof *others; i++) {
+        const struct section made = plain_with(others[i]);
+        has_no_place(&made);
+    }
+}
+
 /* A compact row is filled in with little stack, unless something else is in the FDE or its CIE. */
 static void compact_rows_are_filled_in(void) {
     static const struct { const char *program; uint32_t status; } cases[] = {
@@ -597,6 +632,7 @@ int main(int argc, char **argv) {
     rbp_is_read_where_it_is_needed();
     rows_lead_to_a_cfa_and_rbp();
     rows_that_have_no_place();
+    rows_of_linkage_tables_are_kept();
     a_cfa_by_another_register_takes_a_cursor();
     key_0_is_never_found();
     five_addresses_of_one_set();

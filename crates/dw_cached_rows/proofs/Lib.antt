@@ -2,6 +2,10 @@ pub mod Entries
 pub mod CompactPacking
 pub mod Packing
 pub mod Rules
+pub mod CodedRuns
+pub mod PltExpressions
+pub mod PltRuns
+pub mod PltRows
 pub mod Steps
 pub mod RegisterSteps
 pub mod Passing

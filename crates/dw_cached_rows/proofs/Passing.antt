@@ -1,5 +1,5 @@
 -- A walk passes one frame more, or ends.
-use Rattle.std.proofs.Common.{◌≡◌, ◌≢◌, ℕ, zero, suc, ◌<◌, ◌==◌, ◌&&◌, ◌%◌, Bool, true, false, List, [], ◌∷◌, ◌++◌, refl, sym, ap, subst, ◌∙◌, arith, ◌+◌, length, take, drop, set, drop-drop, drop-set-lt}
+use Rattle.std.proofs.Common.{◌≡◌, ◌≢◌, ℕ, zero, suc, ◌<◌, ◌==◌, ◌&&◌, ◌%◌, Bool, true, false, List, [], ◌∷◌, ◌++◌, refl, sym, ap, subst, inl, ◌∙◌, arith, ◌+◌, length, take, drop, set, drop-drop, drop-set-lt}
 use Rattle.std.specs.Prelude.{Option, Some, None}
 use Rattle.std.proofs.lemmas.List.{map-append, take_more_set}
 use Rattle.std.proofs.lemmas.Bool.Decides.{nat_tests}
@@ -57,7 +57,7 @@ unwinds rows confirmed (suc a) i memory q caller some lt usable form is =
       record {
         slot = e.slot % SLOTS;
         confirmed = split.1;
-        held = (i, record { inside = lt; key = same e.key (suc a) split.0; slot_is = refl; is = is-row e form });
+        held = (i, record { inside = lt; key = same e.key (suc a) split.0; slot_is = refl; is = inl (is-row e form) });
         column = refl;
       },
       is,

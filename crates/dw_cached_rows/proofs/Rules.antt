@@ -1,4 +1,4 @@
--- The rules of a packed row: they are in asclast_rules order, none is an expression, and which one each
+-- The rules of a packed row: they are in ascending order, none is an expression, and which one each
 -- register has.
 use Rattle.std.proofs.Common.{◌≡◌, ℕ, zero, suc, ◌+◌, ◌<◌, ◌≤◌, ◌==◌, nat_lt, ℤ, pos, negsuc, ◌*ℤ◌, Bool, true, false, if◌then◌else◌, List, [], ◌∷◌, ◌++◌, refl, ◌∙◌, arith}
 use Rattle.std.specs.List.{AllByRecursion}

@@ -16,8 +16,8 @@ use Rattle.dw_cached_rows.specs.declared.packed_row.PackedRow.{PackedRow}
 use Rattle.dw_cached_rows.specs.declared.packed_row.TheConstants.{LAST}
 use Rattle.dw_cached_rows.specs.declared.stack_place.StackPlace.{StackPlace}
 use Rattle.dw_cached_rows.specs.declared.stack_place.Step.TheVariants as steps
-use Rattle.dw_cached_rows.specs.PackedRows.{IsRowOf, saving_rules}
-use Rattle.dw_cached_rows.specs.CachedWalks.{EndsHere, IsAt, IsStep, caller_frame_pointer, frame_pointer_in, little_64, word_at, x86_64}
+use Rattle.dw_cached_rows.specs.PackedRows.{IsRowOf, little_64, saving_rules}
+use Rattle.dw_cached_rows.specs.CachedWalks.{EndsHere, IsAt, IsStep, caller_frame_pointer, frame_pointer_in, word_at, x86_64}
 use Rattle.dw_cached_rows.proofs.Rules.{direct-of, last-of, rbp-rule, return-rule, rsp-rule, rule_by, saving-of, table-of}
 
 -- what dw_unwind says of rows without expressions

@@ -1,9 +1,6 @@
 -- Walks with the rows of a cache, on x86-64.
 use Rattle.std.specs.Prelude.{◌≡◌, ◌≢◌, ◌+◌, ◌==◌, if◌then◌else◌, true, ℕ, zero, ℤ, pos, ◌+ℤ◌, ◌*ℤ◌, List, [], ◌∷◌, ◌++◌, map, Option, Some, None}
 use Rattle.std.specs.Option.{IsSomeAnd}
-use Rattle.dw_bytes.specs.declared.target.Target.{Target}
-use Rattle.dw_bytes.specs.declared.target.Order.TheVariants.{Little}
-use Rattle.dw_bytes.specs.declared.target.AddressSize.TheVariants.{Eight}
 use Rattle.dw_eval.specs.Numbers.{wrap}
 use Rattle.dw_rules.specs.Abi.{Abi, abi_of}
 use Rattle.dw_rules.specs.Rules.{Row}
@@ -19,6 +16,7 @@ use Rattle.dw_cached_rows.specs.declared.stack_place.Step.{Step}
 use Rattle.dw_cached_rows.specs.declared.stack_place.Step.TheVariants as steps
 use Rattle.dw_cached_rows.specs.declared.walk.WalkEnd.{WalkEnd}
 use Rattle.dw_cached_rows.specs.declared.walk.WalkEnd.TheVariants as ends
+use Rattle.dw_cached_rows.specs.PackedRows.{little_64}
 use Rattle.dw_cached_rows.specs.CachedRows.{Confirms, entry_at, is_usable}
 
 -- ---- what a walk unwinds with
@@ -26,9 +24,6 @@ use Rattle.dw_cached_rows.specs.CachedRows.{Confirms, entry_at, is_usable}
 -- the callee-saved registers and the stack pointer of x86-64 (System V ABI, section 3.2.1)
 abbrev pub x86_64 : Abi
 x86_64 = abi_of (RBX ∷ RBP ∷ R12 ∷ R13 ∷ R14 ∷ R15 ∷ []) (Some RSP)
-
-abbrev pub little_64 : Target
-little_64 = record { order = Little; address_size = Eight }
 
 -- unwinding with the rows that a cache has for confirmed modules
 abbrev pub over_cached : List PackedRow → ℕ → (ℕ → Option ℕ) → CallerRelation

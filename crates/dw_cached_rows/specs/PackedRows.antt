@@ -1,11 +1,19 @@
 -- The row that an entry of a cache stands for. It has the rules that compilers for x86-64 write: the
--- CFA is a register plus an offset, and registers are saved at multiples of 8 bytes from it.
-use Rattle.std.specs.Prelude.{◌≡◌, ◌≢◌, ℕ, zero, ◌%◌, nat_le, nat_lt, ◌==◌, ◌&&◌, ◌||◌, Bool, if◌then◌else◌, ℤ, pos, negsuc, ◌*ℤ◌, List, [], ◌∷◌, ◌++◌, Some}
-use Rattle.dw_rules.specs.Rules.{PlacedRule, Row, Rule, RuleOver, offset, register_and_offset, with_rule}
+-- CFA is a register plus an offset, and registers are saved at multiples of 8 bytes from it. Or it is
+-- that of an entry of a procedure linkage table, at one address.
+use Rattle.std.specs.Prelude.{◌≡◌, ◌≢◌, ◌<◌, ◌⊎◌, ℕ, zero, suc, ◌%◌, nat_le, nat_lt, ◌==◌, ◌&&◌, ◌||◌, Bool, if◌then◌else◌, ℤ, pos, negsuc, ◌*ℤ◌, List, [], ◌∷◌, ◌++◌, length, Some}
+use Rattle.dw_bytes.specs.declared.target.Target.{Target}
+use Rattle.dw_bytes.specs.declared.target.Order.TheVariants.{Little}
+use Rattle.dw_bytes.specs.declared.target.AddressSize.TheVariants.{Eight}
+use Rattle.dw_ops.specs.Operations.{and, breg, ge, lit, plus, shl}
+use Rattle.dw_stack.specs.Expressions.{operations_in}
+use Rattle.dw_stack.specs.Located.{LocatedExpression}
+use Rattle.dw_stack.specs.Paths.{Placed}
+use Rattle.dw_rules.specs.Rules.{PlacedRule, Row, Rule, RuleOver, cfa_expression, offset, register_and_offset, with_rule}
 use Rattle.dw_rules.specs.RowsWithExpressions.{rules_with_expressions}
 use Rattle.dw_compact_rows.specs.Slots.{rule_of_slot}
 use Rattle.dw_cached_rows.specs.declared.packed_row.PackedRow.{PackedRow}
-use Rattle.dw_cached_rows.specs.declared.packed_row.TheConstants.{RBX, RBP, R12, R13, R14, R15, RETURN_ADDRESS, LAST}
+use Rattle.dw_cached_rows.specs.declared.packed_row.TheConstants.{RBX, RBP, RSP, R12, R13, R14, R15, RETURN_ADDRESS, LAST}
 
 -- the register `r` is saved at the CFA plus 8 times this number; 0 says that it has no rule
 abbrev pub saved_rule : ℕ → ℤ → List (ℕ × Rule)
@@ -34,6 +42,54 @@ pub record IsRowOf (p : PackedRow) (row : Row) : Type 0 where
   pub some : p.form ≢ 0
   pub cfa : row.cfa ≡ Some (register_and_offset (p.form % LAST) p.cfa_offset)
   pub rules : row.rules ≡ rules_of p
+
+-- ---- expressions of x86-64
+
+abbrev pub little_64 : Target
+little_64 = record { order = Little; address_size = Eight }
+
+-- the bytes of the expression encode these operations, and are so many
+pub record IsCoded (operations : List Placed) (size : ℕ) (x : LocatedExpression) : Type 0 where
+  pub target : x.target ≡ little_64
+  pub are : operations_in x.target x.bytes ≡ operations
+  pub long : length x.bytes ≡ size
+
+-- ---- rows of procedure linkage tables
+
+-- The CFA in an entry of a procedure linkage table, as linkers write it: rsp plus 8, and 8 more from
+-- the byte `limit` of the entry on, where it has pushed a number. An entry has 16 bytes, so rip says
+-- where in it the frame is.
+abbrev pub plt_operations : ℕ → List Placed
+plt_operations limit = (0, breg RSP (pos 8)) ∷ (2, breg RETURN_ADDRESS (pos 0)) ∷ (4, lit 15) ∷ (5, and) ∷ (6, lit limit)
+    ∷ (7, ge) ∷ (8, lit 3) ∷ (9, shl) ∷ (10, plus) ∷ []
+
+abbrev pub IsPltExpression : ℕ → LocatedExpression → Type 0
+IsPltExpression limit x = IsCoded (plt_operations limit) 11 x
+
+-- what the expression adds to rsp if rip has this content
+abbrev pub plt_offset : ℕ → ℕ → ℤ
+plt_offset limit rip = if nat_le limit (rip % 16) then pos 16 else pos 8
+
+-- The entry stands for a row of a procedure linkage table at one address: it has what the row's
+-- expression adds to rsp there, whether rip has this address or, as in a caller, the next one.
+pub record IsPltRowOf (p : PackedRow) (address : ℕ) (row : Row) : Type 0 where
+  pub expression : LocatedExpression
+  pub cfa : row.cfa ≡ Some (cfa_expression expression)
+  pub is : IsPltExpression p.plt_limit expression
+  pub some : p.plt_limit ≢ 0
+  pub inside : p.plt_limit < 16
+  pub form : p.form ≡ RSP
+  pub here : p.cfa_offset ≡ plt_offset p.plt_limit address
+  pub next : p.cfa_offset ≡ plt_offset p.plt_limit (suc address)
+  pub rules : row.rules ≡ saving_rules p
+
+-- the entry stands for the row of an address
+abbrev pub StandsFor : ℕ → PackedRow → Row → Type 0
+StandsFor address p row = IsRowOf p row ⊎ IsPltRowOf p address row
+
+-- the entry was packed from the row of an address
+abbrev pub IsPackedFrom : ℕ → Row → PackedRow → Type 0
+IsPackedFrom address row p = (IsRowOf p row × (p.plt_limit ≡ 0)) ⊎ IsPltRowOf p address row
 
 -- ---- what slots of compact rules say
 

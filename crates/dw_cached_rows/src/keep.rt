@@ -4,11 +4,11 @@ ghost use Rattle.std.specs.Prelude.{◌≡◌, ◌≢◌, ◌<◌, ◌≤◌, �
 ghost use Rattle.dw_rules.specs.Rules.{Row};
 ghost use Rattle.dw_compact_rows.specs.CompactRuns.{row_of_compact};
 ghost use Rattle.dw_cached_rows.specs.CachedRows.{Holds, HoldsInSet, IsKept, IsPutIn, entry_at, set_of_key};
-ghost use Rattle.dw_cached_rows.specs.PackedRows.{IsRowOf};
+ghost use Rattle.dw_cached_rows.specs.PackedRows.{IsPackedFrom, IsRowOf, StandsFor};
 
 use crate::cached_rows::{CachedRows, ROWS, SETS, WAYS, first_of_set};
 use crate::packed_compact::pack_compact;
-use crate::packed_row::{PackedRow, RETURN_ADDRESS, SLOTS, pack};
+use crate::packed_row::{PackedRow, RETURN_ADDRESS, SLOTS, pack, pack_in_plt};
 use dw_compact_rows::CompactRow;
 use dw_rules::UnwindRow;
 
@@ -51,24 +51,42 @@ fn is_walked(return_register: u16, is_signal_frame: bool) -> bool
     !is_signal_frame && return_register == RETURN_ADDRESS
 }
 
-/// Packs a row if walks can use it. An entry of the form 0 if it can't be packed.
-fn packed(row: &UnwindRow<'_, '_>, return_register: u16, is_signal_frame: bool) -> PackedRow
-    ensures { (result.form ≡ 0) ⊎ ((return_register ≡ RETURN_ADDRESS) × (is_signal_frame ≡ false)
-        × IsRowOf result row.now) }
+/// Packs a row of an address. An entry of the form 0 if it can't be packed.
+fn packed_at(row: &UnwindRow<'_, '_>, address: u64) -> PackedRow
+    ensures { (result.form ≡ 0) ⊎ IsPackedFrom address row.now result }
 {
-    if !is_walked(return_register, is_signal_frame) {
+    if let Some(packed) = pack(row) {
+        return packed;
+    }
+    if address == u64::MAX {
         return PackedRow::none();
     }
-    match pack(row) {
+    match pack_in_plt(row, address) {
         Some(packed) => packed,
         None => PackedRow::none(),
     }
 }
 
+/// Packs a row of an address if walks can use it. An entry of the form 0 if it can't be packed.
+fn packed(
+    row: &UnwindRow<'_, '_>,
+    address: u64,
+    return_register: u16,
+    is_signal_frame: bool,
+) -> PackedRow
+    ensures { (result.form ≡ 0) ⊎ ((return_register ≡ RETURN_ADDRESS) × (is_signal_frame ≡ false)
+        × IsPackedFrom address row.now result) }
+{
+    if !is_walked(return_register, is_signal_frame) {
+        return PackedRow::none();
+    }
+    packed_at(row, address)
+}
+
 /// Packs a compact row if walks can use it. An entry of the form 0 if it can't be packed.
 fn packed_compact(row: &CompactRow, return_register: u16, is_signal_frame: bool) -> PackedRow
     ensures { (result.form ≡ 0) ⊎ ((return_register ≡ RETURN_ADDRESS) × (is_signal_frame ≡ false)
-        × IsRowOf result (row_of_compact row.now)) }
+        × IsRowOf result (row_of_compact row.now) × (result.plt_limit ≡ 0)) }
 {
     if !is_walked(return_register, is_signal_frame) {
         return PackedRow::none();
@@ -84,7 +102,7 @@ impl CachedRows {
     /// for a row. It may take the place of another one.
     fn put(&mut self, slot: u8, address: u64, mut entry: PackedRow) -> bool
         requires { slot < SLOTS }
-        ensures held { result ≡ true → (row : Row) → IsRowOf entry row
+        ensures held { result ≡ true → (row : Row) → StandsFor address entry row
             → HoldsInSet self.new.rows slot address row }
         ensures some { result ≡ true → entry.form ≢ 0 }
         ensures dropped { result ≡ false → (other at : ℕ) (held : Row)
@@ -128,7 +146,11 @@ impl CachedRows {
             → Holds self.old.rows other at held ⊎ IsKept slot address row.now return_register
             is_signal_frame other at held }
     {
-        self.put(slot, address, packed(row, return_register, is_signal_frame))
+        self.put(
+            slot,
+            address,
+            packed(row, address, return_register, is_signal_frame),
+        )
     }
 
     /// Keeps a compact row of an address, as `keep` keeps any row.

@@ -58,6 +58,7 @@ fn with_words(mut row: PackedRow, rules: &CompactRules) -> Option<PackedRow>
         ≡ saving_with packed (rule_given RETURN_ADDRESS (rule_in (stored_in rules.now).rules RETURN_ADDRESS))) }
     ensures same { IfSome result (λ packed. (packed.form ≡ row.form)
         × (packed.cfa_offset ≡ row.cfa_offset)) }
+    ensures limit { IfSome result (λ packed. packed.plt_limit ≡ row.plt_limit) }
 {
     let slots = rules.slots();
     row.rbx = words_in_slot(slots[usize::from(RBX)])?;
@@ -78,7 +79,8 @@ fn saves_none(row: &PackedRow) -> bool
 
 /// Packs a compact row, for no address and no module yet. None if it can't be packed.
 pub(crate) fn pack_compact(row: &CompactRow) -> Option<PackedRow>
-    ensures { IfSome result (λ packed. IsRowOf packed (row_of_compact row.now)) }
+    ensures row { IfSome result (λ packed. IsRowOf packed (row_of_compact row.now)) }
+    ensures plain { IfSome result (λ packed. packed.plt_limit ≡ 0) }
 {
     if rules_others(&row.rules) {
         return None;

@@ -1,14 +1,15 @@
 //! A row in 24 bytes.
 
-ghost use Rattle.std.specs.Prelude.{◌≡◌, ◌≢◌, ◌<◌, ◌∷◌, ◌++◌, ◌*ℤ◌, [], IfSome, map, negsuc, pos};
+ghost use Rattle.std.specs.Prelude.{◌≡◌, ◌≢◌, ◌<◌, ◌+◌, ◌^◌, ◌∷◌, ◌++◌, ◌*ℤ◌, [], IfSome, map, negsuc, pos};
 ghost use Rattle.std.specs.Bool.{OnTrue};
-ghost use Rattle.dw_rules.specs.Rules.{RuleOver, offset, register_and_offset};
+ghost use Rattle.dw_rules.specs.Rules.{RuleOver, cfa_expression, offset, register_and_offset};
 ghost use Rattle.dw_rules.specs.SavedRules.{as_saved};
 ghost use Rattle.dw_rules.specs.Views.{cfa_rule_of};
 ghost use Rattle.dw_stack.specs.Located.{LocatedExpression};
 ghost use Rattle.dw_cached_rows.specs.CachedRows.{nothing};
-ghost use Rattle.dw_cached_rows.specs.PackedRows.{IsRowOf, saved_rule, saving_rules};
+ghost use Rattle.dw_cached_rows.specs.PackedRows.{IsPltExpression, IsPltRowOf, IsRowOf, plt_offset, saved_rule, saving_rules};
 
+use dw_bytes::{AddressSize, Order, Target};
 use dw_rows::{CfaRule, RegisterRule};
 use dw_rules::{PlainRules, UnwindRow};
 
@@ -39,7 +40,8 @@ pub const SLOTS: u8 = 64;
 /// The row of an address, if it is as compilers for x86-64 write nearly all rows: the CFA is a
 /// register plus an offset; the return address is saved just below it; and callee-saved registers
 /// are saved at multiples of 8 bytes from it, or have no rule. Or the return address is undefined,
-/// and no register is saved. Any bytes are an entry.
+/// and no register is saved. Or the row is that of an entry of a procedure linkage table, whose CFA
+/// is rsp plus an offset at the one address. Any bytes are an entry.
 #[repr(C)]
 #[derive(Clone, Copy, Drop)]
 pub struct PackedRow {
@@ -59,7 +61,9 @@ pub struct PackedRow {
     pub(crate) r13: i8,
     pub(crate) r14: i8,
     pub(crate) r15: i8,
-    pub(crate) reserved: u32,
+    /// In an entry of a procedure linkage table, from which byte on the linker's code has pushed a
+    /// number. 0 for any other row.
+    pub(crate) plt_limit: u32,
 }
 
 const _: () = prove!(size_of::<PackedRow>() == 24);
@@ -80,7 +84,7 @@ impl PackedRow {
             r13: 0,
             r14: 0,
             r15: 0,
-            reserved: 0,
+            plt_limit: 0,
         }
     }
 }
@@ -144,6 +148,7 @@ pub(crate) fn row_with_cfa(cfa: CfaRule<'_>) -> Option<PackedRow>
     ensures cfa { IfSome result (λ row. cfa_rule_of cfa.entry
         ≡ register_and_offset row.form row.cfa_offset) }
     ensures form { IfSome result (λ row. (row.form ≢ 0) × (row.form < LAST)) }
+    ensures plain { IfSome result (λ row. row.plt_limit ≡ 0) }
 {
     let CfaRule::RegisterAndOffset { register, offset } = cfa else {
         return None;
@@ -164,6 +169,7 @@ fn with_saved(mut row: PackedRow, mut rules: PlainRules<'_>) -> Option<PackedRow
         map (as_saved {E = LocatedExpression}) rules.entry ≡ saving_rules packed) }
     ensures same { IfSome result (λ packed. (packed.form ≡ row.form)
         × (packed.cfa_offset ≡ row.cfa_offset)) }
+    ensures limit { IfSome result (λ packed. packed.plt_limit ≡ row.plt_limit) }
 {
     row.rbx = take_saved(&mut rules, RBX)?;
     row.rbp = take_saved(&mut rules, RBP)?;
@@ -180,7 +186,8 @@ fn with_saved(mut row: PackedRow, mut rules: PlainRules<'_>) -> Option<PackedRow
 
 /// Packs a row, for no address and no module yet. None if it can't be packed.
 pub(crate) fn pack(row: &UnwindRow<'_, '_>) -> Option<PackedRow>
-    ensures { IfSome result (λ packed. IsRowOf packed row.now) }
+    ensures row { IfSome result (λ packed. IsRowOf packed row.now) }
+    ensures plain { IfSome result (λ packed. packed.plt_limit ≡ 0) }
 {
     let mut packed = row_with_cfa(row.cfa())?;
     if let Some(rules) = row.plain_rules(RETURN_ADDRESS + 1) {
@@ -191,4 +198,79 @@ pub(crate) fn pack(row: &UnwindRow<'_, '_>) -> Option<PackedRow>
     }
     packed.form += LAST;
     Some(packed)
+}
+
+/// The CFA's expression in an entry of a procedure linkage table, as ld writes it (DWARF 5, section
+/// 2.5.1): DW_OP_breg7 8, DW_OP_breg16 0, DW_OP_lit15, DW_OP_and, DW_OP_lit11, DW_OP_ge, DW_OP_lit3,
+/// DW_OP_shl, DW_OP_plus.
+const PLT_11: [u8; 11] = [
+    0x77, 0x08, 0x80, 0x00, 0x3f, 0x1a, 0x3b, 0x2a, 0x33, 0x24, 0x22,
+];
+
+/// The same with DW_OP_lit9, for entries that begin with endbr64.
+const PLT_9: [u8; 11] = [
+    0x77, 0x08, 0x80, 0x00, 0x3f, 0x1a, 0x39, 0x2a, 0x33, 0x24, 0x22,
+];
+
+/// The same with DW_OP_lit5, for entries that begin with the push.
+const PLT_5: [u8; 11] = [
+    0x77, 0x08, 0x80, 0x00, 0x3f, 0x1a, 0x35, 0x2a, 0x33, 0x24, 0x22,
+];
+
+/// The target of x86-64's expressions.
+const LITTLE_64: Target = Target {
+    order: Order::Little,
+    address_size: AddressSize::Eight,
+};
+
+/// From which byte of an entry of a procedure linkage table on the CFA is rsp plus 16. None if the CFA
+/// isn't that of such an entry.
+fn plt_limit(cfa: CfaRule<'_>) -> Option<u32>
+    ensures { IfSome result (λ limit. (limit ≢ 0) × (limit < 16) × (x : LocatedExpression)
+        × (cfa_rule_of cfa.entry ≡ cfa_expression x) × IsPltExpression limit x) }
+{
+    let CfaRule::Expression { expression, .. } = cfa else {
+        return None;
+    };
+    let expression = expression.expression();
+    if expression.target() != LITTLE_64 {
+        return None;
+    }
+    let bytes = expression.bytes();
+    if bytes == PLT_11.as_slice() {
+        return Some(11);
+    }
+    if bytes == PLT_9.as_slice() {
+        return Some(9);
+    }
+    if bytes == PLT_5.as_slice() {
+        return Some(5);
+    }
+    None
+}
+
+/// What is added to rsp in an entry of a procedure linkage table, where rip has this content.
+fn plt_offset(limit: u32, rip: u64) -> i32
+    ensures { result ≡ plt_offset limit rip }
+{
+    if u64::from(limit) <= rip % 16 { 16 } else { 8 }
+}
+
+/// Packs the row of an entry of a procedure linkage table, for an address and for no module yet. None
+/// if it isn't one, or if the CFA is another one where rip has the next address.
+pub(crate) fn pack_in_plt(row: &UnwindRow<'_, '_>, address: u64) -> Option<PackedRow>
+    requires { address + 1 < 2 ^ 64 }
+    ensures { IfSome result (λ packed. IsPltRowOf packed address row.now) }
+{
+    let limit = plt_limit(row.cfa())?;
+    let offset = plt_offset(limit, address);
+    if plt_offset(limit, address + 1) != offset {
+        return None;
+    }
+    let rules = row.plain_rules(RETURN_ADDRESS + 1)?;
+    let mut packed = PackedRow::none();
+    packed.form = RSP as u8;
+    packed.cfa_offset = offset;
+    packed.plt_limit = limit;
+    with_saved(packed, rules)
 }

@@ -1,17 +1,16 @@
 -- Rows that C keeps: what a row that was kept is.
-use Rattle.std.proofs.Common.{◌≡◌, ◌≢◌, ◌⊎◌, ℕ, false, inl, inr, refl, List, [], ◌∷◌, subst, sym}
-use Rattle.std.specs.Prelude.{None, Option, Some}
-use Rattle.dw_eval.specs.World.{World}
-use Rattle.dw_rules.specs.Abi.{Abi}
-use Rattle.dw_unwind.specs.Caller.{Caller, IsCaller, machine}
-use Rattle.dw_unwind.specs.Walks.{AreFrames, Place, UnwindsAt, WalkedFrame, next_place, over_rows}
+use Rattle.std.proofs.Common.{◌≡◌, ◌≢◌, ◌⊎◌, ℕ, false, inl, inr, refl, List, subst, sym}
+use Rattle.std.specs.Prelude.{IfSome, Option, Some}
+use Rattle.dw_unwind.specs.Walks.{AreFrames, Place, WalkedFrame, over_rows}
 use Rattle.dw_bytes.specs.declared.target.Target.{Target}
 use Rattle.dw_rules.specs.Rules.{Row}
 use Rattle.dw_eh_frame.specs.Records.{EhFde}
 use Rattle.dw_cached_rows.specs.declared.packed_row.PackedRow.{PackedRow}
 use Rattle.dw_cached_rows.specs.declared.packed_row.TheConstants.{RETURN_ADDRESS}
-use Rattle.dw_cached_rows.specs.CachedRows.{AreRowsOf, HasRulesOf, Holds, IsKept, entry_at}
-use Rattle.dw_cached_rows.specs.CachedWalks.{little_64, over_cached, x86_64}
+use Rattle.dw_cached_rows.specs.CachedRows.{AreRowsOf, HasRulesAt, Holds, IsKept, KnowsItsAddress, LeadsToAt, entry_at}
+use Rattle.dw_cached_rows.specs.PackedRows.{little_64}
+use Rattle.dw_cached_rows.specs.CachedWalks.{over_cached, x86_64}
+use Rattle.dw_cached_rows.proofs.OverLookUps.{UnderAbi, over-look-ups-at}
 use Rattle.dwcheck_c.specs.CachedFills.{CanBeKept, FindsConfirmed, FindsIn, HasUsableRow, IsOfFill}
 use Rattle.dwcheck_c.specs.InPlaceLookUps.{HasRow}
 use Rattle.dwcheck_c.specs.declared.in_place.CHeader.{CHeader}
@@ -56,7 +55,7 @@ after-fill loaded old new slot address are only other at held is = elim (only ot
     kept.row,
     subst (λ (s : ℕ). FindsIn loaded s at (Some (kept.row, 16))) (sym kept.slot_is)
         (subst (λ (a : ℕ). FindsIn loaded slot a (Some (kept.row, 16))) (sym kept.address_is) (kept.has, refl)),
-    kept.rules,
+    subst (λ (a : ℕ). HasRulesAt a held kept.row) (sym kept.address_is) kept.rules,
   )
 ]
 
@@ -74,33 +73,12 @@ after-forget loaded next old new slot are none others same other at held is =
 
 -- ---- walks
 
-abbrev pub SameCallers : Type 0
-SameCallers = (e : World) (abi : Abi) (column : ℕ) (one other : Row) (caller : Caller) → HasRulesOf one other
-    → IsCaller e abi column one caller → IsCaller e abi column other caller
-
-one-unwinding : SameCallers → (loaded : ℕ → CModule × CHeader) (rows : List PackedRow) (mask : ℕ) (memory : ℕ → Option ℕ)
-    → AreRowsOf (FindsIn loaded) rows → (registers : ℕ → Option ℕ) (at : Option ℕ) (caller : Option Caller)
-    → UnwindsAt (over_cached rows mask memory) registers at caller
-    → UnwindsAt (over_rows little_64 (FindsConfirmed loaded mask) x86_64 memory) registers at caller
-one-unwinding callers loaded rows mask memory are registers None caller is = is
-one-unwinding callers loaded rows mask memory are registers (Some a) caller (None, confirms, is) = absurd confirms
-one-unwinding callers loaded rows mask memory are registers (Some a) None (Some found, confirms, is) = absurd is
-one-unwinding callers loaded rows mask memory are registers (Some a) (Some caller) (Some found, confirms, is) =
-    let e = machine little_64 registers memory in
-    let row = are confirms.slot a found.0 confirms.held in (
-      Some (row.0, 16),
-      (confirms.slot, confirms.confirmed, row.1),
-      callers e x86_64 16 found.0 row.0 caller row.2
-          (subst (λ (column : ℕ). IsCaller e x86_64 column found.0 caller) confirms.column is),
-    )
-
-pub walks-over-look-ups : SameCallers → (loaded : ℕ → CModule × CHeader) (rows : List PackedRow) (mask : ℕ) (memory : ℕ → Option ℕ)
-    (from : Option Place) (frames : List WalkedFrame) → AreRowsOf (FindsIn loaded) rows
+pub walks-over-look-ups : UnderAbi → (loaded : ℕ → CModule × CHeader) (rows : List PackedRow) (mask : ℕ) (memory : ℕ → Option ℕ)
+    (from : Option Place) (frames : List WalkedFrame) → AreRowsOf (FindsIn loaded) rows → IfSome from KnowsItsAddress
     → AreFrames (over_cached rows mask memory) from frames
     → AreFrames (over_rows little_64 (FindsConfirmed loaded mask) x86_64 memory) from frames
-walks-over-look-ups callers loaded rows mask memory from [] are is = tt
-walks-over-look-ups callers loaded rows mask memory None (f ∷ frames) are is = absurd is
-walks-over-look-ups callers loaded rows mask memory (Some p) (f ∷ frames) are is = (
-  (is.0.0, one-unwinding callers loaded rows mask memory are p.registers p.looked_up f.caller is.0.1),
-  walks-over-look-ups callers loaded rows mask memory (next_place f.caller) frames are is.1,
-)
+walks-over-look-ups under loaded rows mask memory from frames are = over-look-ups-at under rows mask memory (FindsConfirmed loaded mask) from frames leads
+  where
+    leads : LeadsToAt (FindsConfirmed loaded mask) rows mask
+    leads address held confirms =
+        let row = are confirms.slot address held.0 confirms.held in (row.0, (confirms.slot, confirms.confirmed, row.1), row.2)

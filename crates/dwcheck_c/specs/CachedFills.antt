@@ -10,8 +10,8 @@ use Rattle.dw_cached_rows.specs.declared.packed_row.TheConstants.{R12, R13, R14,
 use Rattle.dw_cached_rows.specs.declared.register_place.RegisterPlace.{RegisterPlace}
 use Rattle.dw_cached_rows.specs.declared.walk.WalkEnd.{WalkEnd}
 use Rattle.dw_cached_rows.specs.declared.walk.WalkEnd.TheVariants as ends
-use Rattle.dw_cached_rows.specs.CachedRows.{HasRulesOf, HoldsInSet, is_confirmed}
-use Rattle.dw_cached_rows.specs.CachedWalks.{little_64}
+use Rattle.dw_cached_rows.specs.CachedRows.{HasRulesAt, HoldsInSet, is_confirmed}
+use Rattle.dw_cached_rows.specs.PackedRows.{little_64}
 use Rattle.dwcheck_c.specs.InPlaceLookUps.{HasRow}
 use Rattle.dwcheck_c.specs.declared.cached_walks.TheConstants.{MISSING, OTHER}
 use Rattle.dwcheck_c.specs.declared.in_place.CHeader.{CHeader}
@@ -51,13 +51,14 @@ pub record IsFilled (m : CModule) (h : CHeader) (slot address : ℕ) (rows : Lis
   pub has : HasUsableRow m h address row
   pub held : HoldsInSet rows slot address row
 
--- a row that the cache has is the one of this address, for this slot
+-- A row that the cache has is the one of this address, for this slot, or gives there what that one
+-- gives.
 pub record IsOfFill (m : CModule) (h : CHeader) (slot address other at : ℕ) (held : Row) : Type 0 where
   pub slot_is : other ≡ slot
   pub address_is : at ≡ address
   pub row : Row
   pub has : HasUsableRow m h address row
-  pub rules : HasRulesOf held row
+  pub rules : HasRulesAt address held row
 
 -- ---- what is kept in the end
 

@@ -13,11 +13,12 @@ ghost use Rattle.dwcheck_c.specs.declared.in_place.CHeader.{CHeader as Header};
 ghost use Rattle.dwcheck_c.specs.declared.module.CModule.{CModule as Module};
 ghost use Rattle.dw_eh_frame.specs.Views.{eh_fde_of};
 ghost use Rattle.dw_unwind.specs.declared.frames.Stop.{Stop as Reason};
-ghost use Rattle.dw_cached_rows.specs.CachedRows.{AreRowsOf, Holds, HoldsInSet, IsKept, IsMissing, entry_at};
+ghost use Rattle.dw_cached_rows.specs.CachedRows.{AreRowsOf, Holds, HoldsInSet, IsKept, IsMissing, KnowsItsAddress, entry_at};
 ghost use Rattle.dw_cached_rows.specs.declared.packed_row.PackedRow.{PackedRow};
 ghost use Rattle.dw_cached_rows.specs.declared.packed_row.TheConstants.{RETURN_ADDRESS};
 ghost use Rattle.dw_compact_rows.specs.CompactRuns.{row_of_compact};
-ghost use Rattle.dw_cached_rows.specs.CachedWalks.{EndsAfter, IsOther, Passes, little_64, over_cached, x86_64};
+ghost use Rattle.dw_cached_rows.specs.PackedRows.{little_64};
+ghost use Rattle.dw_cached_rows.specs.CachedWalks.{EndsAfter, IsOther, Passes, over_cached, x86_64};
 ghost use Rattle.dw_cached_rows.specs.RegisterWalks.{EndsWithRegisters, IsOtherWith, IsWith, WalksWith, register_in};
 ghost use Rattle.dw_unwind.specs.Contents.{contents_in};
 ghost use Rattle.dwcheck_c.specs.WalkCursors.{looked_up_by, place_of};
@@ -462,8 +463,9 @@ pub extern "C" fn dwcheck_place_of_cursor(place: &mut RegisterPlace, cursor: &CC
 
 /// Rows that C keeps are those of its modules, if it gives each module a slot of its own: in rows of
 /// zeros there are none; a fill, by what it promises, puts in one of the slot's module; and a slot
-/// that was forgotten may name another module. Then a walk with the rows of confirmed slots has the
-/// frames of a walk that looks each of them up in place.
+/// that was forgotten may name another module. Then a walk with the rows of confirmed slots, from a
+/// place at which rip has the address of the frame, has the frames of a walk that looks each of them
+/// up in place.
 pub fn kept_rows_are_those_of_look_ups()
     ensures zeros { (loaded : ℕ → Module × Header) (rows : List PackedRow)
         → ((i : ℕ) → (entry_at rows i).key ≡ 0) → AreRowsOf (FindsIn loaded) rows }
@@ -481,9 +483,9 @@ pub fn kept_rows_are_those_of_look_ups()
         → AreRowsOf (FindsIn next) new }
     ensures walks { (loaded : ℕ → Module × Header) (rows : List PackedRow) (confirmed : ℕ)
         (memory : ℕ → Option ℕ) (from : Option Place) (frames : List WalkedFrame)
-        → AreRowsOf (FindsIn loaded) rows
+        → AreRowsOf (FindsIn loaded) rows → IfSome from KnowsItsAddress
         → AreFrames (over_cached rows confirmed memory) from frames
         → AreFrames (over_rows little_64 (FindsConfirmed loaded confirmed) x86_64 memory) from frames }
 {
-    dw_cached_rows::laws::rows_with_the_same_rules_give_the_same_callers();
+    dw_rules::laws::rules_under_abis();
 }

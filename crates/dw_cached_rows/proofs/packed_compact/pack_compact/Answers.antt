@@ -9,8 +9,8 @@ use Rattle.dw_compact_rows.proofs.Slots.{slot-read}
 use Rattle.dw_cached_rows.proofs.CompactPacking.{last-row, saved-row}
 use Rattle.dw_cached_rows.proofs.packed_compact.pack_compact.Goals as goal
 
-pub returns-then-slot : goal.returns-then-slot
-returns-then-slot c =
+pub returns-then-slot-clause-row : goal.returns-then-slot-clause-row
+returns-then-slot-clause-row c =
     let s = c.slots.result.now in
     let placed = (stored_in c.args.row.now.rules).rules in
     let here : get_or s c.from.result (pos 0) ≡ negsuc 7 = search rules in
@@ -23,8 +23,8 @@ returns-then-slot c =
     (rule_in placed 16) (ap (option_map (cfa_with_expressions [])) c.cfa-register.ensures) cfa
     c.in_ok-empty.ensures.form c.in_ok-packed.ensures.same c.in_ok-packed.ensures.rules last
 
-pub returns : goal.returns
-returns c =
+pub returns-clause-row : goal.returns-clause-row
+returns-clause-row c =
     let s = c.slots.result.now in
     let placed = (stored_in c.args.row.now.rules).rules in
     let here : get_or s c.from.result (pos 0) ≡ negsuc 32767 = search rules in

@@ -1,6 +1,6 @@
 use Rattle.std.proofs.Common.{◌≡◌, rules}
 use Rattle.dw_eh_frame.specs.Views.{eh_fde_of}
-use Rattle.dw_cached_rows.specs.CachedWalks.{little_64}
+use Rattle.dw_cached_rows.specs.PackedRows.{little_64}
 use Rattle.dwcheck_c.proofs.CachedFills.{usable-kept}
 use Rattle.dwcheck_c.proofs.cached_walks.keep_row.Goals as goal
 

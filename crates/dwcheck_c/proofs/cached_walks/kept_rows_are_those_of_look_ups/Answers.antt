@@ -11,4 +11,4 @@ pub returns-clause-forgotten : goal.returns-clause-forgotten
 returns-clause-forgotten c = after-forget
 
 pub returns-clause-walks : goal.returns-clause-walks
-returns-clause-walks c = walks-over-look-ups c.rows_with_the_same_rules_give_the_same_callers.ensures
+returns-clause-walks c = walks-over-look-ups c.rules_under_abis.ensures.all
