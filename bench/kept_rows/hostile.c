@@ -86,6 +86,12 @@ static dwcheck_rows filled, before;
 /* ---- damaged sections and headers */
 static uint64_t damaged[16];
 
+/* Whether the CFA is a word of memory by rbp: then one word isn't enough for a step. */
+static bool is_realigned(const dwcheck_module *module, const dwcheck_row *row)
+{
+    return row->cfa.kind == DWCHECK_RULE_VAL_EXPRESSION && row->cfa.length == 3 && module->frame[row->cfa.offset] == 0x76;
+}
+
 /* The number in the CFA's expression of an entry of a PLT. */
 static uint64_t plt_limit(const dwcheck_module *module, const dwcheck_row *row)
 {
@@ -146,6 +152,10 @@ static void fill_damaged(dwcheck_rows *rows)
         same("the status of a fill", have, want);
         if (memcmp(&fault, &other, sizeof fault)) differs("a fault", other.number, fault.number);
         if (memcmp(rows, &before, sizeof *rows)) differs("rows that should stay", 1, 0);
+    }
+    if (have == DWCHECK_DONE && is_realigned(&module, &row)) {
+        while (n--) *saved[n].at = saved[n].byte;
+        return;
     }
     /* One step by the row. */
     dwcheck_place place = {.address = address, .key = address + 1, .stack_pointer = any(), .frame_pointer = any()};

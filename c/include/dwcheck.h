@@ -481,10 +481,10 @@ typedef struct dwcheck_rows { uint64_t words[3361]; } dwcheck_rows;
    `slot` % 64. The row may take the place of another one. Returns DONE; NO_PLACE if there is a row that can't be kept,
    at which walks stop: one with an expression, say, or that of a signal frame, or any row of another target than
    little-endian with addresses of 8 bytes; or any other status that dwcheck_row_in returns, and then the rows are as
-   they were. The expression that linkers write for the CFA in a procedure linkage table is no such one: the row is kept
-   for this address, with the CFA that it gives if rip has this address or, as in a caller, the next one; if these
-   differ, the call returns NO_PLACE. The call takes as much stack as the next one where that has the answer, and else as
-   dwcheck_row_in. */
+   they were. Two kinds of rows with expressions are kept: those of stacks that gcc has realigned, whose CFA is a word of
+   memory by rbp; and those that linkers write for procedure linkage tables, for this address, with the CFA that it gives
+   if rip has this address or, as in a caller, the next one; if these differ, the call returns NO_PLACE. The call takes
+   as much stack as the next one where that has the answer, and else as dwcheck_row_in. */
 uint32_t dwcheck_rows_fill(dwcheck_rows *rows, uint32_t slot, const dwcheck_module *module, const dwcheck_header *header,
                            uint64_t address, dwcheck_fault *fault);
 
@@ -513,7 +513,8 @@ enum {
     /* No row is kept for the frame. If `key` isn't 0, fill in the row of the address `key` - 1, and go on. If it is, or
        if filling in returns NONE, no FDE covers the frame, and it is the last one. */
     DWCHECK_STOP_MISSING = 5,
-    /* The frame needs a step of a cursor: its row can't be kept, or needs a register that the walk doesn't keep or know. */
+    /* The frame needs a step of a cursor: its row can't be kept, or needs a register that the walk doesn't keep or know,
+       or a word of memory that isn't known. */
     DWCHECK_STOP_OTHER = 6
 };
 

@@ -440,6 +440,43 @@ static void rows_of_linkage_tables_are_kept(void) {
     }
 }
 
+/* Where gcc realigns a stack, the CFA is in memory at rbp - 8, rbp is saved at rbp, and rbx at rbp - 16. */
+static void rows_of_realigned_stacks_are_kept(void) {
+    const struct section made = plain_with("0f03767806" "1006027600" "1003027670");
+    static const uint64_t saved[] = {0x1234, 0x7100, 0x5678}, back = LOAD + FIRST + 5;
+    const dwcheck_block blocks[] = {{0x7020, (const uint8_t *)saved, 24}, {0x70f8, (const uint8_t *)&back, 8}};
+    dwcheck_place place = at_plain;
+    memset(&rows, 0, sizeof rows);
+    IS(fill(1, &made, LOAD + PLAIN), DWCHECK_DONE);
+    walk(&place, 1 << 1, blocks, 2, 1);
+    IS(stop, DWCHECK_STOP_LIMIT); IS(count, 1);
+    IS(is_caller(&place, back, 0x7100, 0x7030, 1), 1);
+    dwcheck_register_place with = {.address = LOAD + PLAIN, .key = LOAD + PLAIN + 1, .stack_pointer = 0x7000,
+                                   .rbx = 3, .rbp = 0x7030, .r12 = 12, .r13 = 13, .r14 = 14, .r15 = 15};
+    dwcheck_register_frame frame;
+    dwcheck_walk_frames(&rows, 1 << 1, &with, blocks, 2, &frame, 1, &count, &stop);
+    IS(stop, DWCHECK_STOP_LIMIT); IS(count, 1); IS(frame.cfa, 0x7100);
+    IS(with.address, back); IS(with.stack_pointer, 0x7100);
+    IS(with.rbx, 0x1234); IS(with.rbp, 0x5678); IS(with.r12, 12); IS(with.r15, 15);
+    place = at_plain; /* without the return address, and without the word that has the CFA */
+    walk(&place, 1 << 1, blocks, 1, 1);
+    IS(stop, DWCHECK_STOP_RETURN_UNREADABLE); IS(count, 1);
+    place = at_plain;
+    walk(&place, 1 << 1, blocks + 1, 1, 1);
+    IS(stop, DWCHECK_STOP_OTHER); IS(count, 0);
+    static const char *const others[] = {
+        "0f027678",             /* the CFA is rbp - 8 itself */
+        "0f03767806" "110602",  /* rbp is saved from the CFA on */
+        "0f03767806" "1000027600", /* rax is saved */
+        "0f03777806",           /* the CFA is in memory at rsp - 8 */
+        "0f03767906",           /* at rbp - 7 */
+        "0f0476b87f06"          /* at rbp - 72 */};
+    for (size_t i = 0; i < sizeof others / sizeof *others; i++) {
+        const struct section other = plain_with(others[i]);
+        has_no_place(&other);
+    }
+}
+
 /* A compact row is filled in with little stack, unless something else is in the FDE or its CIE. */
 static void compact_rows_are_filled_in(void) {
     static const struct { const char *program; uint32_t status; } cases[] = {
@@ -633,6 +670,7 @@ int main(int argc, char **argv) {
     rows_lead_to_a_cfa_and_rbp();
     rows_that_have_no_place();
     rows_of_linkage_tables_are_kept();
+    rows_of_realigned_stacks_are_kept();
     a_cfa_by_another_register_takes_a_cursor();
     key_0_is_never_found();
     five_addresses_of_one_set();

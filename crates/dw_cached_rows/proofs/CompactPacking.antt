@@ -14,7 +14,7 @@ and-false : (b : Bool) → (b && false) ≡ false
 and-false true = refl
 and-false false = refl
 
-not-packed : (r : ℕ) → r ≢ 3 → r ≢ 6 → (r < 12) ⊎ (16 < r) → is_packed r ≡ false
+pub not-packed : (r : ℕ) → r ≢ 3 → r ≢ 6 → (r < 12) ⊎ (16 < r) → is_packed r ≡ false
 not-packed r three six (inl low) = rw (ne_eqb r 3 three, ne_eqb r 6 six, lt-leb 12 r low) refl
 not-packed r three six (inr high) = rw (ne_eqb r 3 three, ne_eqb r 6 six, lt-leb r 16 high) (and-false (leb 12 r))
 
@@ -114,27 +114,29 @@ past p empty small same =
 
 -- the return address is saved just below the CFA
 pub saved-row : (p empty : PackedRow) (row : Row) (r : ℕ) (n : ℤ) (rule : PlacedRule) → row.cfa ≡ Some (register_and_offset r n)
-    → ◌≡◌ {A = Cfa} (register_and_offset r n) (register_and_offset empty.form empty.cfa_offset) → (empty.form ≢ 0) × (empty.form < 128)
+    → ◌≡◌ {A = Cfa} (register_and_offset r n) (register_and_offset empty.form empty.cfa_offset) → (empty.form ≢ 0) × (empty.form < 64)
     → (p.form ≡ empty.form) × (p.cfa_offset ≡ empty.cfa_offset) → row.rules ≡ saving_with p (rule_given 16 rule)
     → rule ≡ offset (negsuc 7) → IsRowOf p row
 saved-row p empty row r n rule cfa is form same rules_are last =
     let small : p.form < 128 = omega (arith, same.0, form.1) in
     record {
       some = λ zero. form.0 (sym same.0 ∙ zero);
-      cfa = cfa ∙ ap Some (is ∙ whole p empty form.1 same);
+      usual = λ realigned. omega (arith, same.0, form.1, realigned);
+      cfa = cfa ∙ ap Some (is ∙ whole p empty (omega (arith, form.1)) same);
       rules = rw (lt-ltb p.form 128 small) (rules_are ∙ ap (λ (x : PlacedRule). saving_with p (rule_given 16 x)) last);
     }
 
 -- the return address is undefined, and no register is saved
 pub last-row : (p empty : PackedRow) (row : Row) (r : ℕ) (n : ℤ) (rule : PlacedRule) → row.cfa ≡ Some (register_and_offset r n)
-    → ◌≡◌ {A = Cfa} (register_and_offset r n) (register_and_offset empty.form empty.cfa_offset) → (empty.form ≢ 0) × (empty.form < 128)
+    → ◌≡◌ {A = Cfa} (register_and_offset r n) (register_and_offset empty.form empty.cfa_offset) → (empty.form ≢ 0) × (empty.form < 64)
     → (p.form ≡ empty.form) × (p.cfa_offset ≡ empty.cfa_offset) → row.rules ≡ saving_with p (rule_given 16 rule)
     → rule ≡ RuleOver.undefined → ((rest : List (ℕ × Rule)) → saving_with p rest ≡ rest) → IsRowOf (record p { form = p.form + 128 }) row
 last-row p empty row r n rule cfa is form same rules_are last none =
     let small : p.form < 128 = omega (arith, same.0, form.1) in
     record {
       some = λ zero. omega (arith, zero);
-      cfa = cfa ∙ ap Some (is ∙ past p empty form.1 same);
+      usual = λ realigned. omega (arith, realigned);
+      cfa = cfa ∙ ap Some (is ∙ past p empty (omega (arith, form.1)) same);
       rules = rw (le-ltb (p.form + 128) 128 (omega arith))
           (rules_are ∙ none (rule_given 16 rule) ∙ ap (rule_given 16) last);
     }

@@ -5,9 +5,15 @@ pub mod Rules
 pub mod CodedRuns
 pub mod PltExpressions
 pub mod PltRuns
-pub mod PltRows
 pub mod Steps
 pub mod RegisterSteps
+pub mod Words
+pub mod WordRuns
+pub mod RealignedCallers
+pub mod RealignedRows
+pub mod RealignedPacking
+pub mod PltRows
+pub mod RealignedSteps
 pub mod Passing
 pub mod RegisterPassing
 pub mod OverLookUps

@@ -76,7 +76,8 @@ saved-return e cfa (entry ∷ rules) (found ∷ answers) n are is =
 -- the return address of a row that a cache has is saved just below the CFA, or undefined
 held-return : (address : ℕ) (p : PackedRow) (row : Row) → StandsFor address p row
     → (rule_in row.rules 16 ≡ offset (negsuc 7)) ⊎ (rule_in row.rules 16 ≡ RuleOver.undefined)
-held-return address p row (inl is) = go (nat_lt p.form LAST) refl
+held-return address p row (inl (inr is)) = inl is.returns
+held-return address p row (inl (inl is)) = go (nat_lt p.form LAST) refl
   where
     go : (b : Bool) → nat_lt p.form LAST ≡ b → (rule_in row.rules 16 ≡ offset (negsuc 7)) ⊎ (rule_in row.rules 16 ≡ RuleOver.undefined)
     go true lt = inl (ap (λ (rules : List (ℕ × Rule)). rule_in rules 16) (is.rules ∙ saving-of p lt) ∙ return-rule p)

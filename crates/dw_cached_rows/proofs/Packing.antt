@@ -30,7 +30,8 @@ pub kept-of : (slot address column : ℕ) (row : Row) (is_signal : Bool) (entry 
 kept-of slot address column row is_signal entry other at held (inl zero) put = absurd (none entry address held zero put.is)
   where
     none : (p : PackedRow) (address : ℕ) (row : Row) → p.form ≡ 0 → StandsFor address p row → ⊥
-    none p address row zero (inl is) = is.some zero
+    none p address row zero (inl (inl is)) = is.some zero
+    none p address row zero (inl (inr is)) = absurd (cc (zero, is.form))
     none p address row zero (inr plt) = absurd (cc (zero, plt.form))
 kept-of slot address column row is_signal entry other at held (inr packed) put = record {
   slot_is = put.slot_is;

@@ -3,18 +3,18 @@ use Rattle.std.proofs.Common.{◌≡◌, ◌≢◌, ℕ, zero, suc, ◌<◌, ◌
 use Rattle.std.specs.Prelude.{Option, Some, None}
 use Rattle.std.proofs.lemmas.List.{map-append, take_more_set}
 use Rattle.std.proofs.lemmas.Bool.Decides.{nat_tests}
-use Rattle.dw_rules.specs.Rules.{Row, register_and_offset}
+use Rattle.dw_rules.specs.Rules.{Row}
 use Rattle.dw_unwind.specs.Caller.{Caller}
 use Rattle.dw_unwind.specs.Walks.{AreFrames, CallerRelation, IsFrameAt, Place, UnwindsAt, WalkedFrame, address_before, next_place}
 use Rattle.dw_unwind.specs.declared.frames.Stop.{Stop}
 use Rattle.dw_unwind.specs.declared.frames.Stop.TheVariants.{ReturnUndefined, ReturnUnreadable}
 use Rattle.dw_cached_rows.specs.declared.cached_rows.TheConstants.{ROWS}
 use Rattle.dw_cached_rows.specs.declared.packed_row.PackedRow.{PackedRow}
-use Rattle.dw_cached_rows.specs.declared.packed_row.TheConstants.{LAST, SLOTS}
+use Rattle.dw_cached_rows.specs.declared.packed_row.TheConstants.{SLOTS}
 use Rattle.dw_cached_rows.specs.declared.stack_place.StackPlace.{StackPlace}
 use Rattle.dw_cached_rows.specs.declared.stack_place.Step.{Step}
 use Rattle.dw_cached_rows.specs.declared.stack_place.Step.TheVariants as steps
-use Rattle.dw_cached_rows.specs.PackedRows.{IsRowOf, rules_of}
+use Rattle.dw_cached_rows.specs.PackedRows.{IsWalkedRowOf}
 use Rattle.dw_cached_rows.specs.CachedRows.{entry_at, is_confirmed, is_usable}
 use Rattle.dw_cached_rows.specs.CachedWalks.{EndsAfter, EndsHere, IsAt, IsCallerFrom, IsStep, Passes, addresses_of, over_cached, place_after}
 
@@ -30,12 +30,9 @@ frames-snoc u (Some p) (g ∷ frames) q f are is at =
 
 -- ---- the frame of a usable entry
 
--- a row for which a packed one stands
-abbrev pub row-of : PackedRow → Row
-row-of p = record { start = 0; end = 0; cfa = Some (register_and_offset (p.form % LAST) p.cfa_offset); rules = rules_of p }
-
-pub is-row : (p : PackedRow) → p.form ≢ 0 → IsRowOf p (row-of p)
-is-row p some = record { some = some; cfa = refl; rules = refl }
+-- a row for which the entry stands
+abbrev pub HasRow : PackedRow → Type 0
+HasRow p = (row : Row) × IsWalkedRowOf p row
 
 both : (a b : Bool) → (a && b) ≡ true → (a ≡ true) × (b ≡ true)
 both true true is = (refl, refl)
@@ -46,18 +43,18 @@ same : (n m : ℕ) → (n == m) ≡ true → n ≡ m
 same n m is = grind (arith, nat_tests, is)
 
 unwinds : (rows : List PackedRow) (confirmed key i : ℕ) (memory : ℕ → Option ℕ) (q : Place) (caller : Caller) → key ≢ 0
-    → i < ROWS → is_usable confirmed key (entry_at rows i) ≡ true → (entry_at rows i).form ≢ 0
-    → IsCallerFrom memory (row-of (entry_at rows i)) q caller
+    → i < ROWS → is_usable confirmed key (entry_at rows i) ≡ true → (has : HasRow (entry_at rows i))
+    → IsCallerFrom memory has.0 q caller
     → UnwindsAt (over_cached rows confirmed memory) q.registers (address_before key) (Some caller)
-unwinds rows confirmed zero i memory q caller some lt usable form is = absurd (some refl)
-unwinds rows confirmed (suc a) i memory q caller some lt usable form is =
+unwinds rows confirmed zero i memory q caller some lt usable has is = absurd (some refl)
+unwinds rows confirmed (suc a) i memory q caller some lt usable has is =
     let e = entry_at rows i in
     let split = both (e.key == suc a) (is_confirmed confirmed (e.slot % SLOTS)) usable in (
-      Some (row-of e, 16),
+      Some (has.0, 16),
       record {
         slot = e.slot % SLOTS;
         confirmed = split.1;
-        held = (i, record { inside = lt; key = same e.key (suc a) split.0; slot_is = refl; is = inl (is-row e form) });
+        held = (i, record { inside = lt; key = same e.key (suc a) split.0; slot_is = refl; is = inl has.1 });
         column = refl;
       },
       is,
@@ -65,12 +62,12 @@ unwinds rows confirmed (suc a) i memory q caller some lt usable form is =
 
 pub frame-here : (rows : List PackedRow) (confirmed key i : ℕ) (memory : ℕ → Option ℕ) (q : Place) (caller : Caller)
     → q.looked_up ≡ address_before key → key ≢ 0 → i < ROWS → is_usable confirmed key (entry_at rows i) ≡ true
-    → (entry_at rows i).form ≢ 0 → IsCallerFrom memory (row-of (entry_at rows i)) q caller
+    → (has : HasRow (entry_at rows i)) → IsCallerFrom memory has.0 q caller
     → IsFrameAt (over_cached rows confirmed memory) q (record { address = q.address; caller = Some caller })
-frame-here rows confirmed key i memory q caller looked_up some lt usable form is = (
+frame-here rows confirmed key i memory q caller looked_up some lt usable has is = (
   refl,
   subst (λ (o : Option ℕ). UnwindsAt (over_cached rows confirmed memory) q.registers o (Some caller)) (sym looked_up)
-      (unwinds rows confirmed key i memory q caller some lt usable form is),
+      (unwinds rows confirmed key i memory q caller some lt usable has is),
 )
 
 addresses-snoc : (frames : List WalkedFrame) (f : WalkedFrame) (xs : List ℕ) (x : ℕ) → addresses_of frames ≡ xs → f.address ≡ x
@@ -81,20 +78,20 @@ addresses-snoc frames f xs x are is =
 
 -- what a step says of each place where the walk may be
 abbrev pub Says : (ℕ → Option ℕ) → PackedRow → StackPlace → Step → Type 0
-Says memory e here step = (p : Place) (full : Row) → IsAt memory here p → IsRowOf e full → IsStep memory full p step
+Says memory e here step = (p : Place) (full : Row) → IsAt memory here p → IsWalkedRowOf e full → IsStep memory full p step
 
 pub passes-next : (rows : List PackedRow) (confirmed i : ℕ) (memory : ℕ → Option ℕ) (from here next : StackPlace) (xs : List ℕ)
-    → here.key ≢ 0 → i < ROWS → is_usable confirmed here.key (entry_at rows i) ≡ true → (entry_at rows i).form ≢ 0
+    → here.key ≢ 0 → i < ROWS → is_usable confirmed here.key (entry_at rows i) ≡ true → HasRow (entry_at rows i)
     → Says memory (entry_at rows i) here (steps.To next) → Passes (over_cached rows confirmed memory) memory from xs here
     → Passes (over_cached rows confirmed memory) memory from (xs ++ here.address ∷ []) next
-passes-next rows confirmed i memory from here next xs some lt usable form says passes p at =
+passes-next rows confirmed i memory from here next xs some lt usable has says passes p at =
     let u = over_cached rows confirmed memory in
     let before = passes p at in
     let frames = before.0 in let q = before.1 in let passed = before.2 in let at-q = before.3 in
-    let step = says q (row-of (entry_at rows i)) at-q (is-row (entry_at rows i) form) in
+    let step = says q has.0 at-q has.1 in
     let f : WalkedFrame = record { address = q.address; caller = Some step.0 } in
     let more = frames-snoc u (Some p) frames q f passed.are passed.to_is
-    (frame-here rows confirmed here.key i memory q step.0 at-q.looked_up some lt usable form step.1) in (
+    (frame-here rows confirmed here.key i memory q step.0 at-q.looked_up some lt usable has step.1) in (
       frames ++ f ∷ [],
       step.2,
       record { are = more.0; to_is = more.1 ∙ step.3 },
@@ -103,13 +100,13 @@ passes-next rows confirmed i memory from here next xs some lt usable form says p
     )
 
 pub ends-next : (rows : List PackedRow) (confirmed i : ℕ) (memory : ℕ → Option ℕ) (from here : StackPlace) (xs : List ℕ) (stop : Stop)
-    → here.key ≢ 0 → i < ROWS → is_usable confirmed here.key (entry_at rows i) ≡ true → (entry_at rows i).form ≢ 0
-    → ((p : Place) (full : Row) → IsAt memory here p → IsRowOf (entry_at rows i) full → EndsHere memory full p stop) → Passes (over_cached rows confirmed memory) memory from xs here
+    → here.key ≢ 0 → i < ROWS → is_usable confirmed here.key (entry_at rows i) ≡ true → HasRow (entry_at rows i)
+    → ((p : Place) (full : Row) → IsAt memory here p → IsWalkedRowOf (entry_at rows i) full → EndsHere memory full p stop) → Passes (over_cached rows confirmed memory) memory from xs here
     → EndsAfter (over_cached rows confirmed memory) memory from (xs ++ here.address ∷ []) stop
-ends-next rows confirmed i memory from here xs stop some lt usable form says passes p at =
+ends-next rows confirmed i memory from here xs stop some lt usable has says passes p at =
     let before = passes p at in
     let frames = before.0 in let q = before.1 in let passed = before.2 in let at-q = before.3 in
-    let step = says q (row-of (entry_at rows i)) at-q (is-row (entry_at rows i) form) in
+    let step = says q has.0 at-q has.1 in
     let f : WalkedFrame = record { address = q.address; caller = Some step.0 } in (
       frames ++ f ∷ [],
       record {
@@ -117,7 +114,7 @@ ends-next rows confirmed i memory from here xs stop some lt usable form says pas
         place = q;
         last = f;
         passed = passed;
-        is = frame-here rows confirmed here.key i memory q step.0 at-q.looked_up some lt usable form step.1;
+        is = frame-here rows confirmed here.key i memory q step.0 at-q.looked_up some lt usable has step.1;
         ends = step.2;
         all = refl;
       },
@@ -137,15 +134,15 @@ written-next xs old n x lt rest =
 
 pub walks-on : (held rows : List PackedRow) (confirmed i : ℕ) (memory : ℕ → Option ℕ) (from here next : StackPlace) (xs : List ℕ) (n : ℕ)
     (step : Step) → rows ≡ held → n < length xs → here.key ≢ 0 → i < ROWS → is_usable confirmed here.key (entry_at rows i) ≡ true
-    → ((entry_at rows i).form ≡ 0 → step ≡ steps.Other) → step ≡ steps.To next → Says memory (entry_at rows i) here step
+    → (step ≢ steps.Other → HasRow (entry_at rows i)) → step ≡ steps.To next → Says memory (entry_at rows i) here step
     → Passes (over_cached held confirmed memory) memory from (take n xs) here
     → Passes (over_cached held confirmed memory) memory from (take (n + 1) (set xs n here.address)) next
-walks-on held rows confirmed i memory from here next xs n step same lt some inside usable none is says passes =
+walks-on held rows confirmed i memory from here next xs n step same lt some inside usable has is says passes =
     let u = over_cached held confirmed memory in
     subst (λ (l : List ℕ). Passes u memory from l next) (sym (take_more_set xs n here.address lt))
     (passes-next held confirmed i memory from here next (take n xs) some inside
     (subst (λ (r : List PackedRow). is_usable confirmed here.key (entry_at r i) ≡ true) same usable)
-    (λ zero-form. other-goes next (sym (none (subst (λ (r : List PackedRow). (entry_at r i).form ≡ 0) (sym same) zero-form)) ∙ is))
+    (subst (λ (r : List PackedRow). HasRow (entry_at r i)) same (has (λ other. other-goes next (sym other ∙ is))))
     (subst (λ (r : List PackedRow). Says memory (entry_at r i) here (steps.To next)) same
     (subst (λ (s : Step). Says memory (entry_at rows i) here s) is says)) passes)
   where
@@ -158,16 +155,16 @@ EndsBy step stop = (memory : ℕ → Option ℕ) (full : Row) (p : Place) → Is
 
 pub walk-ends : (held rows : List PackedRow) (confirmed i : ℕ) (memory : ℕ → Option ℕ) (from here : StackPlace) (xs : List ℕ) (n : ℕ)
     (step : Step) (stop : Stop) → rows ≡ held → n < length xs → here.key ≢ 0 → i < ROWS
-    → is_usable confirmed here.key (entry_at rows i) ≡ true → (entry_at rows i).form ≢ 0 → EndsBy step stop
+    → is_usable confirmed here.key (entry_at rows i) ≡ true → HasRow (entry_at rows i) → EndsBy step stop
     → Says memory (entry_at rows i) here step → Passes (over_cached held confirmed memory) memory from (take n xs) here
     → EndsAfter (over_cached held confirmed memory) memory from (take (n + 1) (set xs n here.address)) stop
-walk-ends held rows confirmed i memory from here xs n step stop same lt some inside usable form ends says passes =
+walk-ends held rows confirmed i memory from here xs n step stop same lt some inside usable has ends says passes =
     let u = over_cached held confirmed memory in
     subst (λ (l : List ℕ). EndsAfter u memory from l stop) (sym (take_more_set xs n here.address lt))
     (ends-next held confirmed i memory from here (take n xs) stop some inside
     (subst (λ (r : List PackedRow). is_usable confirmed here.key (entry_at r i) ≡ true) same usable)
-    (subst (λ (r : List PackedRow). (entry_at r i).form ≢ 0) same form)
-    (λ p full at is. ends memory full p (says p full at (subst (λ (r : List PackedRow). IsRowOf (entry_at r i) full) (sym same) is))) passes)
+    (subst (λ (r : List PackedRow). HasRow (entry_at r i)) same has)
+    (λ p full at is. ends memory full p (says p full at (subst (λ (r : List PackedRow). IsWalkedRowOf (entry_at r i) full) (sym same) is))) passes)
 
 -- a step that ends a walk isn't `Other`, and ends it for its own reason
 pub ends-undefined : (step : Step) → step ≡ steps.ReturnUndefined → EndsBy step ReturnUndefined
@@ -176,8 +173,8 @@ ends-undefined step is memory full p says = subst (λ (s : Step). IsStep memory 
 pub ends-unreadable : (step : Step) → step ≡ steps.ReturnUnreadable → EndsBy step ReturnUnreadable
 ends-unreadable step is memory full p says = subst (λ (s : Step). IsStep memory full p s) is says
 
-pub some-undefined : (e : PackedRow) (step : Step) → (e.form ≡ 0 → step ≡ steps.Other) → step ≡ steps.ReturnUndefined → e.form ≢ 0
-some-undefined e step none is zero-form = absurd (cc (none zero-form, is))
+pub some-undefined : (e : PackedRow) (step : Step) → (step ≢ steps.Other → HasRow e) → step ≡ steps.ReturnUndefined → HasRow e
+some-undefined e step has is = has (λ other. absurd (cc (other, is)))
 
-pub some-unreadable : (e : PackedRow) (step : Step) → (e.form ≡ 0 → step ≡ steps.Other) → step ≡ steps.ReturnUnreadable → e.form ≢ 0
-some-unreadable e step none is zero-form = absurd (cc (none zero-form, is))
+pub some-unreadable : (e : PackedRow) (step : Step) → (step ≢ steps.Other → HasRow e) → step ≡ steps.ReturnUnreadable → HasRow e
+some-unreadable e step has is = has (λ other. absurd (cc (other, is)))

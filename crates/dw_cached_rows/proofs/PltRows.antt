@@ -15,6 +15,7 @@ use Rattle.dw_cached_rows.specs.PackedRows.{IsPackedFrom, IsPltExpression, IsPlt
 use Rattle.dw_cached_rows.specs.CachedRows.{GivesAt, HasRulesAt, KnowsAddress}
 use Rattle.dw_cached_rows.proofs.CodedRuns.{coded-run, run-coded}
 use Rattle.dw_cached_rows.proofs.PltRuns.{fails, finishes, seventh, seventh-is}
+use Rattle.dw_cached_rows.proofs.RealignedRows.{both-realigned}
 use Rattle.dw_cached_rows.proofs.Rules.{saving-of}
 
 -- ---- what the expression gives
@@ -85,10 +86,13 @@ both-plt p address row held plt is registers memory abi caller knows called =
     (subst (λ (rule : Option Cfa). IsCfa e rule caller.cfa) (sym plt.cfa) (given.0, given.1, run, given.3)) called
 
 pub alike : (p : PackedRow) (address : ℕ) (row held : Row) → IsPackedFrom address row p → StandsFor address p held → HasRulesAt address held row
-alike p address row held (inl (is, plain)) (inl other) =
+alike p address row held (inl (is, plain)) (inl (inl other)) =
     inl (record { cfa = other.cfa ∙ sym is.cfa; rules = other.rules ∙ sym is.rules })
+alike p address row held (inl (is, plain)) (inl (inr other)) = absurd (is.usual other.form)
 alike p address row held (inl (is, plain)) (inr other) = absurd (other.some plain)
-alike p address row held (inr plt) (inl other) =
-    inr (plt.expression, plt.cfa, stands-in p address row held plt other)
-alike p address row held (inr plt) (inr other) =
-    inr (plt.expression, plt.cfa, both-plt p address row held plt other)
+alike p address row held (inr (inl plt)) (inl (inl other)) = inr (plt.expression, plt.cfa, stands-in p address row held plt other)
+alike p address row held (inr (inl plt)) (inl (inr other)) = absurd (cc (plt.form, other.form))
+alike p address row held (inr (inl plt)) (inr other) = inr (plt.expression, plt.cfa, both-plt p address row held plt other)
+alike p address row held (inr (inr is)) (inl (inl other)) = absurd (other.usual is.form)
+alike p address row held (inr (inr is)) (inl (inr other)) = inr (is.expression, is.cfa, both-realigned p address row held is other)
+alike p address row held (inr (inr is)) (inr other) = absurd (cc (is.form, other.form))

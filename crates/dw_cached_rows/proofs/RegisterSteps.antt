@@ -139,3 +139,7 @@ kept-register here p r n at is = go15 (15 == r) (same-register 15 r) is
     go15 : (b : Bool) → (b ≡ true → r ≡ 15) → (if b then Some here.r15 else (if 14 == r then Some here.r14 else (if 13 == r then Some here.r13 else (if 12 == r then Some here.r12 else (if 6 == r then Some here.rbp else (if 3 == r then Some here.rbx else (if 7 == r then Some here.stack_pointer else None))))))) ≡ Some n → p.registers r ≡ Some n
     go15 true same found = moved 15 here.r15 (same refl) at.r15 found
     go15 false same found = go14 (14 == r) (same-register 14 r) found
+
+-- a walk keeps no register with such a number
+pub no-register : (here : RegisterPlace) (r n base : ℕ) → r ≡ n → register_in here n ≡ None → register_in here r ≡ Some base → ⊥
+no-register here r n base same none known = absurd (cc (ap (register_in here) same, none, known))

@@ -1,5 +1,5 @@
 -- A step of a walk that keeps two registers is that of the definition.
-use Rattle.std.proofs.Common.{◌==◌, ◌≡◌, ℕ, zero, suc, ◌+◌, ◌<◌, ◌^◌, ◌%◌, nat_lt, ℤ, pos, negsuc, ◌+ℤ◌, Bool, true, false, if◌then◌else◌, List, refl, sym, ap, subst, ◌∙◌, arith, nat_le}
+use Rattle.std.proofs.Common.{◌==◌, ◌≡◌, ◌≢◌, inl, inr, ℕ, zero, suc, ◌+◌, ◌<◌, ◌^◌, ◌%◌, nat_lt, ℤ, pos, negsuc, ◌+ℤ◌, Bool, true, false, if◌then◌else◌, List, refl, sym, ap, subst, ◌∙◌, arith, nat_le}
 use Rattle.std.specs.Prelude.{Option, Some, None, option_map}
 use Rattle.std.proofs.lemmas.Bool.Decides.{nat_tests}
 use Rattle.dw_eval.specs.Numbers.{wrap}
@@ -13,10 +13,10 @@ use Rattle.dw_unwind.specs.DirectAnswers.{AreDirect, HasDirectCaller, NamesRegis
 use Rattle.dw_unwind.specs.Walks.{Place, address_before, content_of, place_of_caller, stop_of_return}
 use Rattle.dw_unwind.specs.declared.frames.Stop.TheVariants.{ReturnUndefined, ReturnUnreadable}
 use Rattle.dw_cached_rows.specs.declared.packed_row.PackedRow.{PackedRow}
-use Rattle.dw_cached_rows.specs.declared.packed_row.TheConstants.{LAST}
+use Rattle.dw_cached_rows.specs.declared.packed_row.TheConstants.{LAST, REALIGNED}
 use Rattle.dw_cached_rows.specs.declared.stack_place.StackPlace.{StackPlace}
 use Rattle.dw_cached_rows.specs.declared.stack_place.Step.TheVariants as steps
-use Rattle.dw_cached_rows.specs.PackedRows.{IsRowOf, little_64, saving_rules}
+use Rattle.dw_cached_rows.specs.PackedRows.{IsRealignedRowOf, IsRowOf, IsWalkedRowOf, little_64, rules_of, saving_rules}
 use Rattle.dw_cached_rows.specs.CachedWalks.{EndsHere, IsAt, IsStep, caller_frame_pointer, frame_pointer_in, word_at, x86_64}
 use Rattle.dw_cached_rows.proofs.Rules.{direct-of, last-of, rbp-rule, return-rule, rsp-rule, rule_by, saving-of, table-of}
 
@@ -42,6 +42,23 @@ caller-by callers memory packed full p base is known =
     (subst (λ (rules : List (ℕ × Rule)). IsTable 0 rules) (sym is.rules) (table-of packed))
     (subst AreDirect (sym is.rules) (direct-of packed)) is.cfa known
 
+-- ---- rows for which an entry stands
+
+-- an entry that isn't that of a realigned stack stands for a row
+pub direct-row : (p : PackedRow) → p.form ≢ 0 → p.form ≢ REALIGNED → (full : Row) × IsWalkedRowOf p full
+direct-row p some usual = (
+  record { start = 0; end = 0; cfa = Some (register_and_offset (p.form % LAST) p.cfa_offset); rules = rules_of p },
+  inl (record { some = some; usual = usual; cfa = refl; rules = refl }),
+)
+
+pub usual-of : (p : PackedRow) (full : Row) (n : ℕ) → p.form ≡ n → (n ≡ REALIGNED → ⊥) → IsWalkedRowOf p full → IsRowOf p full
+usual-of p full n form other (inl is) = is
+usual-of p full n form other (inr is) = absurd (other (sym form ∙ is.form))
+
+pub realigned-of : (p : PackedRow) (full : Row) → p.form ≡ REALIGNED → IsWalkedRowOf p full → IsRealignedRowOf p full
+realigned-of p full form (inl is) = absurd (is.usual form)
+realigned-of p full form (inr is) = is
+
 -- ---- contents of 64 bits
 
 mod-id : (n : ℕ) → n < 2 ^ 64 → n % 2 ^ 64 ≡ n
@@ -66,7 +83,7 @@ plus-fits : (memory : ℕ → Option ℕ) (p : Place) (o : Option ℕ) → Fits 
 plus-fits memory p None = tt
 plus-fits memory p (Some n) = below-64 (n + 0)
 
-word-fits : (memory : ℕ → Option ℕ) (a : ℕ) → Fits (word_at memory a)
+pub word-fits : (memory : ℕ → Option ℕ) (a : ℕ) → Fits (word_at memory a)
 word-fits memory a = go (nat_le (a + 8) (2 ^ 64))
   where
     go : (b : Bool) → Fits (content_of (if b then content_plus (machine little_64 (λ r. None) memory) (pos 0)
@@ -74,7 +91,7 @@ word-fits memory a = go (nat_le (a + 8) (2 ^ 64))
     go true = plus-fits memory (record { address = 0; looked_up = None; registers = λ r. None }) (number_at memory Little a 8)
     go false = tt
 
-pointer-fits : (memory : ℕ → Option ℕ) (here : StackPlace) → here.frame_pointer < 2 ^ 64 → Fits (frame_pointer_in memory here)
+pub pointer-fits : (memory : ℕ → Option ℕ) (here : StackPlace) → here.frame_pointer < 2 ^ 64 → Fits (frame_pointer_in memory here)
 pointer-fits memory here below = go (here.is_saved == 0)
   where
     go : (b : Bool) → Fits (if b then Some here.frame_pointer else word_at memory here.frame_pointer)

@@ -10,13 +10,13 @@ use Rattle.dw_unwind.specs.Walks.{over_rows, stop_of_caller}
 use Rattle.dw_unwind.specs.declared.frames.Stop.{Stop}
 use Rattle.dw_unwind.specs.declared.frames.Stop.TheVariants.{ReturnUndefined, ReturnUnreadable}
 use Rattle.dw_cached_rows.specs.declared.packed_row.PackedRow.{PackedRow}
-use Rattle.dw_cached_rows.specs.declared.packed_row.TheConstants.{LAST, RBX, RBP, RSP, R12, R13, R14, R15, RETURN_ADDRESS}
+use Rattle.dw_cached_rows.specs.declared.packed_row.TheConstants.{LAST, REALIGNED, RBX, RBP, RSP, R12, R13, R14, R15, RETURN_ADDRESS}
 use Rattle.dw_cached_rows.specs.declared.stack_place.StackPlace.{StackPlace}
 use Rattle.dw_cached_rows.specs.declared.stack_place.Step.{Step}
 use Rattle.dw_cached_rows.specs.declared.stack_place.Step.TheVariants as steps
 use Rattle.dw_cached_rows.specs.declared.walk.WalkEnd.{WalkEnd}
 use Rattle.dw_cached_rows.specs.declared.walk.WalkEnd.TheVariants as ends
-use Rattle.dw_cached_rows.specs.PackedRows.{little_64}
+use Rattle.dw_cached_rows.specs.PackedRows.{AreSmall, little_64}
 use Rattle.dw_cached_rows.specs.CachedRows.{Confirms, entry_at, is_usable}
 
 -- ---- what a walk unwinds with
@@ -44,6 +44,21 @@ frame_pointer_in memory here = if here.is_saved == 0 then Some here.frame_pointe
 abbrev pub caller_frame_pointer : (ℕ → Option ℕ) → ℕ → ℤ → StackPlace → Option ℕ
 caller_frame_pointer memory cfa (pos zero) here = frame_pointer_in memory here
 caller_frame_pointer memory cfa k here = word_at memory (wrap 64 (pos cfa +ℤ k *ℤ pos 8))
+
+-- the address that is so many words above a number
+abbrev pub address_by : ℕ → ℤ → ℕ
+address_by base words = wrap 64 (pos base +ℤ words *ℤ pos 8)
+
+-- what rbp has in the caller of a frame whose stack was realigned, and in which it has the content
+-- `base`: it is saved one word above so many words from there; 0 says that it isn't saved
+abbrev pub frame_pointer_by_rbp : (ℕ → Option ℕ) → ℕ → ℤ → StackPlace → Option ℕ
+frame_pointer_by_rbp memory base (pos zero) here = frame_pointer_in memory here
+frame_pointer_by_rbp memory base k here = word_at memory (address_by base (k +ℤ pos 1))
+
+-- the same of any register, whose content is `n`
+abbrev pub content_by_rbp : (ℕ → Option ℕ) → ℕ → ℤ → ℕ → Option ℕ
+content_by_rbp memory base (pos zero) n = Some n
+content_by_rbp memory base k n = word_at memory (address_by base (k +ℤ pos 1))
 
 -- A walk that keeps only two registers is at the place `p`. The others have any contents.
 pub record IsAt (memory : ℕ → Option ℕ) (here : StackPlace) (p : Place) : Type 0 where
@@ -73,9 +88,12 @@ IsStep memory row p steps.Other = Unit {0}
 
 -- Two registers aren't enough for a step by the entry: the CFA's register is neither of them, or it
 -- is rbp, whose content isn't known; or the return address is undefined, and the CFA's register isn't
--- rsp; or the entry stands for no row.
+-- rsp; or the entry stands for no row. So it is where the stack was realigned, if rbp's content isn't
+-- known, or the word that has the CFA.
 abbrev pub NeedsMore : (ℕ → Option ℕ) → PackedRow → StackPlace → Type 0
 NeedsMore memory p here = (p.form ≢ RSP) × (p.form ≢ LAST + RSP) × (p.form ≡ RBP → frame_pointer_in memory here ≡ None)
+    × (p.form ≡ REALIGNED → (base : ℕ) → AreSmall p → frame_pointer_in memory here ≡ Some base
+    → word_at memory (address_by base p.cfa_offset) ≡ None)
 
 -- ---- many steps
 

@@ -1,19 +1,20 @@
 -- The row that an entry of a cache stands for. It has the rules that compilers for x86-64 write: the
 -- CFA is a register plus an offset, and registers are saved at multiples of 8 bytes from it. Or it is
--- that of an entry of a procedure linkage table, at one address.
-use Rattle.std.specs.Prelude.{◌≡◌, ◌≢◌, ◌<◌, ◌⊎◌, ℕ, zero, suc, ◌%◌, nat_le, nat_lt, ◌==◌, ◌&&◌, ◌||◌, Bool, if◌then◌else◌, ℤ, pos, negsuc, ◌*ℤ◌, List, [], ◌∷◌, ◌++◌, length, Some}
+-- that of an entry of a procedure linkage table, at one address. Or the stack was realigned, and what
+-- is saved is found by rbp.
+use Rattle.std.specs.Prelude.{◌≡◌, ◌≢◌, ◌<◌, ◌⊎◌, ℕ, zero, suc, ◌*◌, ◌-◌, ◌%◌, nat_le, nat_lt, ◌==◌, ◌&&◌, ◌||◌, Bool, true, if◌then◌else◌, ℤ, pos, negsuc, ◌+ℤ◌, ◌*ℤ◌, List, [], ◌∷◌, ◌++◌, length, Some}
 use Rattle.dw_bytes.specs.declared.target.Target.{Target}
 use Rattle.dw_bytes.specs.declared.target.Order.TheVariants.{Little}
 use Rattle.dw_bytes.specs.declared.target.AddressSize.TheVariants.{Eight}
-use Rattle.dw_ops.specs.Operations.{and, breg, ge, lit, plus, shl}
+use Rattle.dw_ops.specs.Operations.{and, breg, deref, ge, lit, plus, shl}
 use Rattle.dw_stack.specs.Expressions.{operations_in}
 use Rattle.dw_stack.specs.Located.{LocatedExpression}
 use Rattle.dw_stack.specs.Paths.{Placed}
-use Rattle.dw_rules.specs.Rules.{PlacedRule, Row, Rule, RuleOver, cfa_expression, offset, register_and_offset, with_rule}
+use Rattle.dw_rules.specs.Rules.{PlacedRule, Row, Rule, RuleOver, cfa_expression, expression, offset, register_and_offset, rule_in, with_rule}
 use Rattle.dw_rules.specs.RowsWithExpressions.{rules_with_expressions}
 use Rattle.dw_compact_rows.specs.Slots.{rule_of_slot}
 use Rattle.dw_cached_rows.specs.declared.packed_row.PackedRow.{PackedRow}
-use Rattle.dw_cached_rows.specs.declared.packed_row.TheConstants.{RBX, RBP, RSP, R12, R13, R14, R15, RETURN_ADDRESS, LAST}
+use Rattle.dw_cached_rows.specs.declared.packed_row.TheConstants.{RBX, RBP, RSP, R12, R13, R14, R15, REALIGNED, RETURN_ADDRESS, LAST}
 
 -- the register `r` is saved at the CFA plus 8 times this number; 0 says that it has no rule
 abbrev pub saved_rule : ℕ → ℤ → List (ℕ × Rule)
@@ -40,6 +41,7 @@ rules_of p = if nat_lt p.form LAST then saving_rules p else last_rules
 -- form 0 stands for no row.
 pub record IsRowOf (p : PackedRow) (row : Row) : Type 0 where
   pub some : p.form ≢ 0
+  pub usual : p.form ≢ REALIGNED
   pub cfa : row.cfa ≡ Some (register_and_offset (p.form % LAST) p.cfa_offset)
   pub rules : row.rules ≡ rules_of p
 
@@ -83,13 +85,69 @@ pub record IsPltRowOf (p : PackedRow) (address : ℕ) (row : Row) : Type 0 where
   pub next : p.cfa_offset ≡ plt_offset p.plt_limit (suc address)
   pub rules : row.rules ≡ saving_rules p
 
+-- ---- rows of realigned stacks
+
+-- the address of a word that is so many words above rbp, and the word itself
+abbrev pub address_operations : ℤ → List Placed
+address_operations words = (0, breg RBP (words *ℤ pos 8)) ∷ []
+
+abbrev pub word_operations : ℤ → List Placed
+word_operations words = (0, breg RBP (words *ℤ pos 8)) ∷ (2, deref) ∷ []
+
+-- what an entry says of a register; 0 says that it has no rule
+abbrev pub words_for : PackedRow → ℕ → ℤ
+words_for p r = if RBX == r then p.rbx else if RBP == r then p.rbp else if R12 == r then p.r12 else if R13 == r then p.r13
+    else if R14 == r then p.r14 else if R15 == r then p.r15 else pos 0
+
+-- The register is saved at an address by rbp: one word above the one that the number says.
+abbrev pub IsSavedByRbp : ℤ → Rule → Type 0
+IsSavedByRbp (pos zero) rule = rule ≡ RuleOver.default
+IsSavedByRbp k rule = (x : LocatedExpression) × (rule ≡ expression x) × IsCoded (address_operations (k +ℤ pos 1)) 2 x
+
+-- The entry stands for a row as gcc writes it for a stack that it has realigned: the CFA is a word by
+-- rbp, registers are saved at addresses by rbp, and the return address is just below the CFA.
+pub record IsRealignedRowOf (p : PackedRow) (row : Row) : Type 0 where
+  pub form : p.form ≡ REALIGNED
+  pub expression : LocatedExpression
+  pub cfa : row.cfa ≡ Some (cfa_expression expression)
+  pub is : IsCoded (word_operations p.cfa_offset) 3 expression
+  pub saved : (r : ℕ) → r ≢ RETURN_ADDRESS → IsSavedByRbp (words_for p r) (rule_in row.rules r)
+  pub returns : rule_in row.rules RETURN_ADDRESS ≡ offset (negsuc 7)
+
+-- the entry stands for a row, as walks take it
+abbrev pub IsWalkedRowOf : PackedRow → Row → Type 0
+IsWalkedRowOf p row = IsRowOf p row ⊎ IsRealignedRowOf p row
+
 -- the entry stands for the row of an address
 abbrev pub StandsFor : ℕ → PackedRow → Row → Type 0
-StandsFor address p row = IsRowOf p row ⊎ IsPltRowOf p address row
+StandsFor address p row = IsWalkedRowOf p row ⊎ IsPltRowOf p address row
 
 -- the entry was packed from the row of an address
 abbrev pub IsPackedFrom : ℕ → Row → PackedRow → Type 0
-IsPackedFrom address row p = (IsRowOf p row × (p.plt_limit ≡ 0)) ⊎ IsPltRowOf p address row
+IsPackedFrom address row p = (IsRowOf p row × (p.plt_limit ≡ 0)) ⊎ IsPltRowOf p address row ⊎ IsRealignedRowOf p row
+
+-- the byte of an expression that encodes a number of words, if it is small enough
+abbrev pub word_byte : ℤ → ℕ
+word_byte (pos n) = 8 * n
+word_byte (negsuc n) = 120 - 8 * n
+
+abbrev pub is_small : ℤ → Bool
+is_small (pos n) = nat_lt n 8
+is_small (negsuc n) = nat_lt n 8
+
+-- what the entry says of a register, and of the CFA, can be encoded so
+abbrev pub is_saved_small : ℤ → Bool
+is_saved_small (pos zero) = true
+is_saved_small k = is_small (k +ℤ pos 1)
+
+abbrev pub first_are_small : PackedRow → Bool
+first_are_small p = is_small p.cfa_offset && is_saved_small p.rbx && is_saved_small p.rbp && is_saved_small p.r12
+
+abbrev pub are_small : PackedRow → Bool
+are_small p = first_are_small p && is_saved_small p.r13 && is_saved_small p.r14 && is_saved_small p.r15
+
+abbrev pub AreSmall : PackedRow → Type 0
+AreSmall p = are_small p ≡ true
 
 -- ---- what slots of compact rules say
 

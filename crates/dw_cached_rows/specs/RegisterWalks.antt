@@ -8,13 +8,14 @@ use Rattle.dw_unwind.specs.WalkSteps.{cfa_of}
 use Rattle.dw_unwind.specs.declared.frames.Stop.{Stop}
 use Rattle.dw_unwind.specs.declared.frames.Stop.TheVariants.{ReturnUndefined, ReturnUnreadable}
 use Rattle.dw_cached_rows.specs.declared.packed_row.PackedRow.{PackedRow}
-use Rattle.dw_cached_rows.specs.declared.packed_row.TheConstants.{LAST, RBX, RBP, RSP, R12, R13, R14, R15}
+use Rattle.dw_cached_rows.specs.declared.packed_row.TheConstants.{LAST, REALIGNED, RBX, RBP, RSP, R12, R13, R14, R15}
 use Rattle.dw_cached_rows.specs.declared.register_place.FrameWithRegisters.{FrameWithRegisters}
 use Rattle.dw_cached_rows.specs.declared.register_place.RegisterPlace.{RegisterPlace}
 use Rattle.dw_cached_rows.specs.declared.register_place.RegisterStep.{RegisterStep}
 use Rattle.dw_cached_rows.specs.declared.register_place.RegisterStep.TheVariants as steps
+use Rattle.dw_cached_rows.specs.PackedRows.{AreSmall}
 use Rattle.dw_cached_rows.specs.CachedRows.{entry_at, is_usable}
-use Rattle.dw_cached_rows.specs.CachedWalks.{IsCallerFrom, word_at}
+use Rattle.dw_cached_rows.specs.CachedWalks.{IsCallerFrom, address_by, content_by_rbp, word_at}
 
 -- ---- where a walk is
 
@@ -46,17 +47,21 @@ content_after memory cfa (pos zero) n = Some n
 content_after memory cfa k n = word_at memory (wrap 64 (pos cfa +ℤ k *ℤ pos 8))
 
 -- The place is that of the caller of a frame with this CFA, which has this return address, and whose
--- row is this one.
-pub record IsAfter (memory : ℕ → Option ℕ) (cfa return_address : ℕ) (p : PackedRow) (here next : RegisterPlace) : Type 0 where
+-- row is this one. `after` gives the content of a register in the caller, of what the entry says of it
+-- and of its content here.
+pub record IsAfterBy (after : ℤ → ℕ → Option ℕ) (cfa return_address : ℕ) (p : PackedRow) (here next : RegisterPlace) : Type 0 where
   pub address : next.address ≡ return_address
   pub key : next.key ≡ return_address
   pub pointer : next.stack_pointer ≡ cfa
-  pub rbx : content_after memory cfa p.rbx here.rbx ≡ Some next.rbx
-  pub rbp : content_after memory cfa p.rbp here.rbp ≡ Some next.rbp
-  pub r12 : content_after memory cfa p.r12 here.r12 ≡ Some next.r12
-  pub r13 : content_after memory cfa p.r13 here.r13 ≡ Some next.r13
-  pub r14 : content_after memory cfa p.r14 here.r14 ≡ Some next.r14
-  pub r15 : content_after memory cfa p.r15 here.r15 ≡ Some next.r15
+  pub rbx : after p.rbx here.rbx ≡ Some next.rbx
+  pub rbp : after p.rbp here.rbp ≡ Some next.rbp
+  pub r12 : after p.r12 here.r12 ≡ Some next.r12
+  pub r13 : after p.r13 here.r13 ≡ Some next.r13
+  pub r14 : after p.r14 here.r14 ≡ Some next.r14
+  pub r15 : after p.r15 here.r15 ≡ Some next.r15
+
+abbrev pub IsAfter : (ℕ → Option ℕ) → ℕ → ℕ → PackedRow → RegisterPlace → RegisterPlace → Type 0
+IsAfter memory cfa return_address p here next = IsAfterBy (content_after memory cfa) cfa return_address p here next
 
 -- no frame follows the one at the place, for this reason; its CFA is this
 abbrev pub EndsWith : (ℕ → Option ℕ) → Row → Place → ℕ → Stop → Type 0
@@ -106,13 +111,21 @@ EndsWithRegisters u from frames stop = (p : Place) → IsWith from p → EndsWit
 -- The walk has no content for the register of the CFA; or the return address is undefined, and the
 -- CFA's register isn't rsp; or the entry stands for no row.
 abbrev pub NeedsOthers : PackedRow → RegisterPlace → Type 0
-NeedsOthers p here = (register_in here p.form ≡ None) × (p.form ≢ LAST + RSP)
+NeedsOthers p here = (register_in here p.form ≡ None) × (p.form ≢ LAST + RSP) × (p.form ≢ REALIGNED)
+
+-- a callee-saved register has no content in the caller, as `after` gives it
+abbrev pub LacksOneBy : (ℤ → ℕ → Option ℕ) → PackedRow → RegisterPlace → Type 0
+LacksOneBy after p here = (after p.rbx here.rbx ≡ None) ⊎ (after p.rbp here.rbp ≡ None) ⊎ (after p.r12 here.r12 ≡ None)
+    ⊎ (after p.r13 here.r13 ≡ None) ⊎ (after p.r14 here.r14 ≡ None) ⊎ (after p.r15 here.r15 ≡ None)
 
 -- a callee-saved register is saved where memory isn't known, from this CFA on
 abbrev pub LacksSaved : (ℕ → Option ℕ) → ℕ → PackedRow → RegisterPlace → Type 0
-LacksSaved memory cfa p here = (content_after memory cfa p.rbx here.rbx ≡ None) ⊎ (content_after memory cfa p.rbp here.rbp ≡ None)
-    ⊎ (content_after memory cfa p.r12 here.r12 ≡ None) ⊎ (content_after memory cfa p.r13 here.r13 ≡ None)
-    ⊎ (content_after memory cfa p.r14 here.r14 ≡ None) ⊎ (content_after memory cfa p.r15 here.r15 ≡ None)
+LacksSaved memory cfa p here = LacksOneBy (content_after memory cfa) p here
+
+-- The stack was realigned, and the word that has the CFA isn't known, or one where a register is saved.
+abbrev pub LacksRealigned : (ℕ → Option ℕ) → PackedRow → RegisterPlace → Type 0
+LacksRealigned memory p here = (p.form ≡ REALIGNED) × ((cfa : ℕ) → AreSmall p
+    → word_at memory (address_by here.rbp p.cfa_offset) ≡ Some cfa → LacksOneBy (content_by_rbp memory here.rbp) p here)
 
 -- so it is from the CFA that the entry's row gives
 pub record LacksWord (memory : ℕ → Option ℕ) (p : PackedRow) (here : RegisterPlace) : Type 0 where
@@ -125,4 +138,4 @@ pub record IsOtherWith (rows : List PackedRow) (mask : ℕ) (memory : ℕ → Op
   pub looked_up : here.key ≢ 0
   pub index : ℕ
   pub usable : is_usable mask here.key (entry_at rows index) ≡ true
-  pub needs : NeedsOthers (entry_at rows index) here ⊎ LacksWord memory (entry_at rows index) here
+  pub needs : NeedsOthers (entry_at rows index) here ⊎ LacksWord memory (entry_at rows index) here ⊎ LacksRealigned memory (entry_at rows index) here

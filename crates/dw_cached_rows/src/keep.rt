@@ -9,6 +9,7 @@ ghost use Rattle.dw_cached_rows.specs.PackedRows.{IsPackedFrom, IsRowOf, StandsF
 use crate::cached_rows::{CachedRows, ROWS, SETS, WAYS, first_of_set};
 use crate::packed_compact::pack_compact;
 use crate::packed_row::{PackedRow, RETURN_ADDRESS, SLOTS, pack, pack_in_plt};
+use crate::realigned_row::pack_realigned;
 use dw_compact_rows::CompactRow;
 use dw_rules::UnwindRow;
 
@@ -61,7 +62,10 @@ fn packed_at(row: &UnwindRow<'_, '_>, address: u64) -> PackedRow
     if address == u64::MAX {
         return PackedRow::none();
     }
-    match pack_in_plt(row, address) {
+    if let Some(packed) = pack_in_plt(row, address) {
+        return packed;
+    }
+    match pack_realigned(row) {
         Some(packed) => packed,
         None => PackedRow::none(),
     }

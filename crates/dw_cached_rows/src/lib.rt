@@ -7,6 +7,7 @@ mod keep;
 pub mod laws;
 mod packed_compact;
 mod packed_row;
+mod realigned_row;
 mod register_place;
 mod register_walk;
 mod stack_place;

@@ -15,7 +15,7 @@ use dw_compact_rows::{CompactRow, CompactRules, REGISTERS, UNDEFINED};
 use dw_rows::CfaRule;
 
 /// Whether an entry has room for the rule of a register.
-fn is_packed(register: usize) -> bool
+pub(crate) fn is_packed(register: usize) -> bool
     ensures { result ≡ is_packed register }
 {
     register == usize::from(RBX)

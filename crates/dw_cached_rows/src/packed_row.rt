@@ -34,6 +34,9 @@ pub const RETURN_ADDRESS: u16 = 16;
 /// What is added to the form of a row whose return address is undefined.
 pub const LAST: u8 = 128;
 
+/// The form of a row whose stack was realigned. No register with such a number is packed.
+pub const REALIGNED: u8 = 64;
+
 /// How many modules the rows of a cache may be of.
 pub const SLOTS: u8 = 64;
 
@@ -41,20 +44,23 @@ pub const SLOTS: u8 = 64;
 /// register plus an offset; the return address is saved just below it; and callee-saved registers
 /// are saved at multiples of 8 bytes from it, or have no rule. Or the return address is undefined,
 /// and no register is saved. Or the row is that of an entry of a procedure linkage table, whose CFA
-/// is rsp plus an offset at the one address. Any bytes are an entry.
+/// is rsp plus an offset at the one address. Or the stack was realigned: the CFA is what memory holds
+/// at a word by rbp, and registers are saved by rbp. Any bytes are an entry.
 #[repr(C)]
 #[derive(Clone, Copy, Drop)]
 pub struct PackedRow {
     /// The address that is looked up, plus 1. 0 if there is no row.
     pub(crate) key: u64,
-    /// The offset of the CFA from its register.
+    /// The offset of the CFA from its register. Where the stack was realigned, how many words of 8 bytes
+    /// above rbp the CFA is saved.
     pub(crate) cfa_offset: i32,
     /// The number of the CFA's register, plus `LAST` if the return address is undefined. 0 if the
     /// row of the address can't be packed.
     pub(crate) form: u8,
     /// Which module the row is of, modulo `SLOTS`.
     pub(crate) slot: u8,
-    /// Where each register is saved, from the CFA, in words of 8 bytes. 0 if it has no rule.
+    /// Where each register is saved, in words of 8 bytes, from the CFA, or, where the stack was
+    /// realigned, from the word after the one at rbp. 0 if it has no rule.
     pub(crate) rbx: i8,
     pub(crate) rbp: i8,
     pub(crate) r12: i8,
@@ -147,14 +153,14 @@ fn is_undefined_alone(row: &UnwindRow<'_, '_>) -> bool
 pub(crate) fn row_with_cfa(cfa: CfaRule<'_>) -> Option<PackedRow>
     ensures cfa { IfSome result (λ row. cfa_rule_of cfa.entry
         ≡ register_and_offset row.form row.cfa_offset) }
-    ensures form { IfSome result (λ row. (row.form ≢ 0) × (row.form < LAST)) }
+    ensures form { IfSome result (λ row. (row.form ≢ 0) × (row.form < REALIGNED)) }
     ensures plain { IfSome result (λ row. row.plt_limit ≡ 0) }
 {
     let CfaRule::RegisterAndOffset { register, offset } = cfa else {
         return None;
     };
     let form = u8::try_from(register).ok()?;
-    if form == 0 || form >= LAST {
+    if form == 0 || form >= REALIGNED {
         return None;
     }
     let mut row = PackedRow::none();
@@ -218,7 +224,7 @@ const PLT_5: [u8; 11] = [
 ];
 
 /// The target of x86-64's expressions.
-const LITTLE_64: Target = Target {
+pub(crate) const LITTLE_64: Target = Target {
     order: Order::Little,
     address_size: AddressSize::Eight,
 };

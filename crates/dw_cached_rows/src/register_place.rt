@@ -4,12 +4,14 @@ ghost use Rattle.std.specs.Prelude.{◌≡◌, ◌≢◌, ◌⊎◌, ◌+ℤ◌,
 ghost use Rattle.dw_eval.specs.Numbers.{wrap};
 ghost use Rattle.dw_rules.specs.Rules.{Row};
 ghost use Rattle.dw_unwind.specs.Walks.{Place};
-ghost use Rattle.dw_cached_rows.specs.PackedRows.{IsRowOf};
-ghost use Rattle.dw_cached_rows.specs.RegisterWalks.{IsAfter, IsRegisterStep, IsWith, LacksSaved, LacksWord, NeedsOthers, content_after, register_in};
+ghost use Rattle.dw_cached_rows.specs.PackedRows.{AreSmall, IsRealignedRowOf, IsRowOf, IsWalkedRowOf};
+ghost use Rattle.dw_cached_rows.specs.CachedWalks.{address_by, content_by_rbp, word_at};
+ghost use Rattle.dw_cached_rows.specs.RegisterWalks.{IsAfter, IsAfterBy, IsRegisterStep, IsWith, LacksOneBy, LacksRealigned, LacksSaved, LacksWord, NeedsOthers, content_after, register_in};
 ghost use Rattle.dw_cached_rows.specs.declared.register_place.RegisterStep.TheVariants as steps;
 
-use crate::packed_row::{LAST, PackedRow, R12, R13, R14, R15, RBP, RBX, RSP};
-use crate::stack_place::{LAST_BY_RSP, plus, word};
+use crate::packed_row::{LAST, PackedRow, R12, R13, R14, R15, RBP, RBX, REALIGNED, RSP};
+use crate::realigned_row::are_small;
+use crate::stack_place::{LAST_BY_RSP, REALIGNED_FORM, cfa_by_rbp, plus, word};
 use dw_eval::Memory;
 
 /// Where a walk is: at a frame, with the contents of its stack pointer and its callee-saved
@@ -164,6 +166,69 @@ fn step_with_cfa<M: Memory>(
     }
 }
 
+/// The content of a callee-saved register in the caller of a frame whose stack was realigned. `words`
+/// says where it is saved, from the word after the one at `base`; if it is 0, the register keeps the
+/// content `here`.
+fn content_by_rbp<M: Memory>(words: i8, base: u64, here: u64, memory: &M) -> Option<u64>
+    ensures { result ≡ content_by_rbp (M.bytes memory.now) base words here }
+{
+    if words == 0 {
+        Some(here)
+    } else {
+        word(memory, plus(base, (i64::from(words) + 1) * 8))
+    }
+}
+
+/// Where the caller of such a frame is, as `caller_place` says it of any other.
+fn caller_of_realigned<M: Memory>(
+    row: &PackedRow,
+    here: &RegisterPlace,
+    cfa: u64,
+    return_address: u64,
+    memory: &M,
+) -> Option<RegisterPlace>
+    ensures { MatchOption result (LacksOneBy (content_by_rbp (M.bytes memory.now) here.now.rbp) row.now here.now)
+        (IsAfterBy (content_by_rbp (M.bytes memory.now) here.now.rbp) cfa return_address row.now here.now) }
+{
+    let base = here.rbp;
+    Some(RegisterPlace {
+        address: return_address,
+        key: return_address,
+        stack_pointer: cfa,
+        rbx: content_by_rbp(row.rbx, base, here.rbx, memory)?,
+        rbp: content_by_rbp(row.rbp, base, here.rbp, memory)?,
+        r12: content_by_rbp(row.r12, base, here.r12, memory)?,
+        r13: content_by_rbp(row.r13, base, here.r13, memory)?,
+        r14: content_by_rbp(row.r14, base, here.r14, memory)?,
+        r15: content_by_rbp(row.r15, base, here.r15, memory)?,
+    })
+}
+
+/// What a row says of a frame whose stack was realigned.
+fn realigned_step<M: Memory>(row: &PackedRow, here: &RegisterPlace, memory: &M) -> RegisterStep
+    requires { row.now.form ≡ REALIGNED }
+    ensures other { result ≡ steps.Other → LacksRealigned (M.bytes memory.now) row.now here.now }
+    ensures row { result ≢ steps.Other → (full : Row) × IsRealignedRowOf row.now full }
+    ensures step { (p : Place) (full : Row) → IsWith here.now p
+        → IsRealignedRowOf row.now full → IsRegisterStep (M.bytes memory.now) full p result }
+{
+    dw_rules::laws::rules_under_abis();
+    are_numbers(here);
+    if !are_small(row) {
+        return RegisterStep::Other;
+    }
+    let Some(cfa) = cfa_by_rbp(row, here.rbp, memory) else {
+        return RegisterStep::Other;
+    };
+    let Some(return_address) = word(memory, plus(cfa, -8)) else {
+        return RegisterStep::ReturnUnreadable(cfa);
+    };
+    match caller_of_realigned(row, here, cfa, return_address, memory) {
+        Some(caller) => RegisterStep::To(caller),
+        None => RegisterStep::Other,
+    }
+}
+
 /// What a row says of a frame that has no caller, since its return address is undefined.
 fn last_step<M: Memory>(row: &PackedRow, here: &RegisterPlace, _memory: &M) -> RegisterStep
     requires { row.now.form ≡ LAST_BY_RSP }
@@ -178,15 +243,19 @@ fn last_step<M: Memory>(row: &PackedRow, here: &RegisterPlace, _memory: &M) -> R
 /// What a row says of a frame.
 #[inline(always)]
 pub(crate) fn step_by<M: Memory>(row: &PackedRow, here: &RegisterPlace, memory: &M) -> RegisterStep
-    ensures none { row.now.form ≡ 0 → result ≡ steps.Other }
+    ensures row { result ≢ steps.Other → (full : Row) × IsWalkedRowOf row.now full }
     ensures other { result ≡ steps.Other → NeedsOthers row.now here.now
-        ⊎ LacksWord (M.bytes memory.now) row.now here.now }
+        ⊎ LacksWord (M.bytes memory.now) row.now here.now
+        ⊎ LacksRealigned (M.bytes memory.now) row.now here.now }
     ensures step { (p : Place) (full : Row) → IsWith here.now p
-        → IsRowOf row.now full → IsRegisterStep (M.bytes memory.now) full p result }
+        → IsWalkedRowOf row.now full → IsRegisterStep (M.bytes memory.now) full p result }
 {
     let form = u16::from(row.form);
     if form == LAST_BY_RSP {
         return last_step(row, here, memory);
+    }
+    if form == REALIGNED_FORM {
+        return realigned_step(row, here, memory);
     }
     match register(here, form) {
         Some(base) => step_with_cfa(row, here, base, memory),

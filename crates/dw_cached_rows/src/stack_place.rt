@@ -4,11 +4,12 @@ ghost use Rattle.std.specs.Prelude.{◌≡◌, ◌≢◌, ◌+ℤ◌, ◌^◌, �
 ghost use Rattle.dw_eval.specs.Numbers.{wrap};
 ghost use Rattle.dw_rules.specs.Rules.{Row};
 ghost use Rattle.dw_unwind.specs.Walks.{Place};
-ghost use Rattle.dw_cached_rows.specs.CachedWalks.{IsAt, IsStep, NeedsMore, caller_frame_pointer, frame_pointer_in, word_at};
-ghost use Rattle.dw_cached_rows.specs.PackedRows.{IsRowOf};
+ghost use Rattle.dw_cached_rows.specs.CachedWalks.{IsAt, IsStep, NeedsMore, address_by, caller_frame_pointer, frame_pointer_by_rbp, frame_pointer_in, word_at};
+ghost use Rattle.dw_cached_rows.specs.PackedRows.{AreSmall, IsRealignedRowOf, IsRowOf, IsWalkedRowOf};
 ghost use Rattle.dw_cached_rows.specs.declared.stack_place.Step.TheVariants as steps;
 
-use crate::packed_row::{LAST, PackedRow, RBP, RSP};
+use crate::packed_row::{LAST, PackedRow, RBP, REALIGNED, RSP};
+use crate::realigned_row::are_small;
 use dw_bytes::{AddressSize, Order};
 use dw_eval::{Memory, Width};
 
@@ -35,6 +36,9 @@ const _: () = prove!(size_of::<StackPlace>() == 40);
 
 /// The form of a row whose return address is undefined, and whose CFA's register is rsp.
 pub(crate) const LAST_BY_RSP: u16 = LAST as u16 + RSP;
+
+/// The form of a row whose stack was realigned.
+pub(crate) const REALIGNED_FORM: u16 = REALIGNED as u16;
 
 /// What a row says of a frame.
 #[derive(Clone, Copy, Debug, PartialEq, Eq)]
@@ -125,6 +129,83 @@ fn step_with_cfa<M: Memory>(row: &PackedRow, here: &StackPlace, base: u64, memor
     }
 }
 
+/// The place of the caller of a frame with this CFA, whose return address this is, and whose stack was
+/// realigned. The content of rbp is `base`.
+fn caller_of_realigned(
+    row: &PackedRow,
+    here: &StackPlace,
+    base: u64,
+    cfa: u64,
+    return_address: u64,
+) -> StackPlace
+    ensures address { result.address ≡ return_address }
+    ensures key { result.key ≡ return_address }
+    ensures stack_pointer { result.stack_pointer ≡ cfa }
+    ensures frame_pointer { (memory : ℕ → Option ℕ) → frame_pointer_in memory result
+        ≡ frame_pointer_by_rbp memory base row.now.rbp here.now }
+    ensures fits { here.now.frame_pointer < 2 ^ 64 }
+{
+    let (frame_pointer, is_saved) = if row.rbp == 0 {
+        (here.frame_pointer, here.is_saved)
+    } else {
+        (plus(base, (i64::from(row.rbp) + 1) * 8), 1)
+    };
+    StackPlace {
+        address: return_address,
+        key: return_address,
+        stack_pointer: cfa,
+        frame_pointer,
+        is_saved,
+        reserved: 0,
+    }
+}
+
+/// The CFA of a frame whose stack was realigned, and in which rbp has the content `base`. None if the
+/// word isn't known that has it.
+pub(crate) fn cfa_by_rbp<M: Memory>(row: &PackedRow, base: u64, memory: &M) -> Option<u64>
+    ensures { result ≡ word_at (M.bytes memory.now) (address_by base row.now.cfa_offset) }
+{
+    word(memory, plus(base, i64::from(row.cfa_offset) * 8))
+}
+
+/// What a row says of a frame whose stack was realigned, and in which rbp has the content `base`.
+fn step_by_rbp<M: Memory>(row: &PackedRow, here: &StackPlace, base: u64, memory: &M) -> Step
+    ensures other { result ≡ steps.Other
+        → word_at (M.bytes memory.now) (address_by base row.now.cfa_offset) ≡ None }
+    ensures step { (p : Place) (full : Row) → IsAt (M.bytes memory.now) here.now p
+        → IsRealignedRowOf row.now full
+        → frame_pointer_in (M.bytes memory.now) here.now ≡ Some base
+        → IsStep (M.bytes memory.now) full p result }
+{
+    dw_rules::laws::rules_under_abis();
+    let Some(cfa) = cfa_by_rbp(row, base, memory) else {
+        return Step::Other;
+    };
+    match word(memory, plus(cfa, -8)) {
+        Some(return_address) => Step::To(caller_of_realigned(row, here, base, cfa, return_address)),
+        None => Step::ReturnUnreadable,
+    }
+}
+
+/// What a row says of a frame whose stack was realigned.
+fn realigned_step<M: Memory>(row: &PackedRow, here: &StackPlace, memory: &M) -> Step
+    requires { row.now.form ≡ REALIGNED }
+    ensures other { result ≡ steps.Other → (base : ℕ) → AreSmall row.now
+        → frame_pointer_in (M.bytes memory.now) here.now ≡ Some base
+        → word_at (M.bytes memory.now) (address_by base row.now.cfa_offset) ≡ None }
+    ensures row { result ≢ steps.Other → (full : Row) × IsRealignedRowOf row.now full }
+    ensures step { (p : Place) (full : Row) → IsAt (M.bytes memory.now) here.now p
+        → IsRealignedRowOf row.now full → IsStep (M.bytes memory.now) full p result }
+{
+    if !are_small(row) {
+        return Step::Other;
+    }
+    match content(here, memory) {
+        Some(base) => step_by_rbp(row, here, base, memory),
+        None => Step::Other,
+    }
+}
+
 /// What a row says of a frame that has no caller, since its return address is undefined.
 fn last_step<M: Memory>(row: &PackedRow, here: &StackPlace, _memory: &M) -> Step
     requires { row.now.form ≡ LAST_BY_RSP }
@@ -140,10 +221,10 @@ fn last_step<M: Memory>(row: &PackedRow, here: &StackPlace, _memory: &M) -> Step
 /// What a row says of a frame.
 #[inline(always)]
 pub(crate) fn step_by<M: Memory>(row: &PackedRow, here: &StackPlace, memory: &M) -> Step
-    ensures none { row.now.form ≡ 0 → result ≡ steps.Other }
+    ensures row { result ≢ steps.Other → (full : Row) × IsWalkedRowOf row.now full }
     ensures other { result ≡ steps.Other → NeedsMore (M.bytes memory.now) row.now here.now }
     ensures step { (p : Place) (full : Row) → IsAt (M.bytes memory.now) here.now p
-        → IsRowOf row.now full → IsStep (M.bytes memory.now) full p result }
+        → IsWalkedRowOf row.now full → IsStep (M.bytes memory.now) full p result }
 {
     match u16::from(row.form) {
         RSP => step_with_cfa(row, here, here.stack_pointer, memory),
@@ -152,6 +233,7 @@ pub(crate) fn step_by<M: Memory>(row: &PackedRow, here: &StackPlace, memory: &M)
             None => Step::Other,
         },
         LAST_BY_RSP => last_step(row, here, memory),
+        REALIGNED_FORM => realigned_step(row, here, memory),
         _ => Step::Other,
     }
 }

@@ -33,7 +33,7 @@ loop-count-preserved g c =
       rows = kept.rows;
       passes = walks-on c.args.self.now.rows c.loop-count.self.rows c.args.confirmed c.in-Some.index memory c.args.place.now here
           c.in-To.caller xs n c.step_by.result kept.rows (omega (arith, c.loop-count-test.true)) found.1 found.0 found.2
-          c.step_by.ensures.none c.in-To.is c.step_by.ensures.step kept.passes;
+          c.step_by.ensures.row c.in-To.is c.step_by.ensures.step kept.passes;
       rest = written-next xs c.args.addresses.now n here.address (omega (arith, c.loop-count-test.true)) kept.rest;
     }
 
@@ -45,7 +45,7 @@ returns-in-ReturnUndefined-clause-ended g c =
     let entry = entry_at c.loop-count.self.rows c.in-Some.index in
     walk-ends c.args.self.now.rows c.loop-count.self.rows c.args.confirmed c.in-Some.index memory c.args.place.now c.loop-count.here
     c.loop-count.addresses c.loop-count.count c.step_by.result ReturnUndefined kept.rows (omega (arith, c.loop-count-test.true)) found.1 found.0
-    found.2 (some-undefined entry c.step_by.result c.step_by.ensures.none c.in-ReturnUndefined.is) (ends-undefined c.step_by.result c.in-ReturnUndefined.is)
+    found.2 (some-undefined entry c.step_by.result c.step_by.ensures.row c.in-ReturnUndefined.is) (ends-undefined c.step_by.result c.in-ReturnUndefined.is)
     c.step_by.ensures.step kept.passes
 
 pub returns-in-ReturnUnreadable-clause-ended : goal.returns-in-ReturnUnreadable-clause-ended
@@ -56,5 +56,5 @@ returns-in-ReturnUnreadable-clause-ended g c =
     let entry = entry_at c.loop-count.self.rows c.in-Some.index in
     walk-ends c.args.self.now.rows c.loop-count.self.rows c.args.confirmed c.in-Some.index memory c.args.place.now c.loop-count.here
     c.loop-count.addresses c.loop-count.count c.step_by.result ReturnUnreadable kept.rows (omega (arith, c.loop-count-test.true)) found.1 found.0
-    found.2 (some-unreadable entry c.step_by.result c.step_by.ensures.none c.in-ReturnUnreadable.is) (ends-unreadable c.step_by.result c.in-ReturnUnreadable.is)
+    found.2 (some-unreadable entry c.step_by.result c.step_by.ensures.row c.in-ReturnUnreadable.is) (ends-unreadable c.step_by.result c.in-ReturnUnreadable.is)
     c.step_by.ensures.step kept.passes

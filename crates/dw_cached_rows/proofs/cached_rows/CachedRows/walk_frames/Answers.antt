@@ -1,4 +1,6 @@
-use Rattle.std.proofs.Common.{◌∙◌, arith, refl, rules, length-set}
+use Rattle.std.proofs.Common.{◌∙◌, List, arith, refl, rules, length-set, subst}
+use Rattle.dw_cached_rows.specs.declared.packed_row.PackedRow.{PackedRow}
+use Rattle.dw_cached_rows.specs.RegisterWalks.{IsOtherWith}
 use Rattle.dw_unwind.specs.declared.frames.Stop.TheVariants.{ReturnUndefined, ReturnUnreadable}
 use Rattle.dw_cached_rows.specs.CachedRows.{entry_at}
 use Rattle.dw_cached_rows.specs.declared.register_place.FrameWithRegisters.{FrameWithRegisters}
@@ -32,7 +34,7 @@ loop-count-preserved g c =
       rows = kept.rows;
       walks = walks-on c.args.self.now.rows c.loop-count.self.rows c.args.confirmed c.in-Some.index memory c.args.place.now here
           c.in-To.caller xs n c.step_by.result kept.rows (omega (arith, c.loop-count-test.true)) found.1 found.0 found.2
-          c.step_by.ensures.none c.in-To.is c.step_by.ensures.step kept.walks;
+          c.step_by.ensures.row c.in-To.is c.step_by.ensures.step kept.walks;
       rest = written-next xs c.args.frames.now n shown (omega (arith, c.loop-count-test.true)) kept.rest;
     }
 
@@ -45,7 +47,7 @@ returns-in-ReturnUndefined-clause-ended g c =
     let cfa = c.in-ReturnUndefined.cfa in
     walk-ends c.args.self.now.rows c.loop-count.self.rows c.args.confirmed c.in-Some.index memory c.args.place.now c.loop-count.here
     c.loop-count.frames c.loop-count.count cfa c.step_by.result ReturnUndefined kept.rows (omega (arith, c.loop-count-test.true)) found.1
-    found.0 found.2 (some-undefined entry c.step_by.result cfa c.step_by.ensures.none c.in-ReturnUndefined.is)
+    found.0 found.2 (some-undefined entry c.step_by.result cfa c.step_by.ensures.row c.in-ReturnUndefined.is)
     (ends-undefined c.step_by.result cfa c.in-ReturnUndefined.is) c.step_by.ensures.step kept.walks
 
 pub returns-in-ReturnUnreadable-clause-ended : goal.returns-in-ReturnUnreadable-clause-ended
@@ -57,5 +59,12 @@ returns-in-ReturnUnreadable-clause-ended g c =
     let cfa = c.in-ReturnUnreadable.cfa in
     walk-ends c.args.self.now.rows c.loop-count.self.rows c.args.confirmed c.in-Some.index memory c.args.place.now c.loop-count.here
     c.loop-count.frames c.loop-count.count cfa c.step_by.result ReturnUnreadable kept.rows (omega (arith, c.loop-count-test.true)) found.1
-    found.0 found.2 (some-unreadable entry c.step_by.result cfa c.step_by.ensures.none c.in-ReturnUnreadable.is)
+    found.0 found.2 (some-unreadable entry c.step_by.result cfa c.step_by.ensures.row c.in-ReturnUnreadable.is)
     (ends-unreadable c.step_by.result cfa c.in-ReturnUnreadable.is) c.step_by.ensures.step kept.walks
+
+pub returns-in-Other-clause-other : goal.returns-in-Other-clause-other
+returns-in-Other-clause-other g c = λ other.
+    let found = c.in-Some.ensures.found in
+    subst (λ (rows : List PackedRow). IsOtherWith rows c.args.confirmed (g.M.Memory.bytes c.args.memory.now) c.loop-count.here)
+    c.loop-count.invariant.rows
+    (record { looked_up = found.1; index = c.in-Some.index; usable = found.2; needs = c.step_by.ensures.other c.in-Other.is })
