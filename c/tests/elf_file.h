@@ -20,11 +20,19 @@ static struct file file_at(const char *path) {
     return (struct file){bytes, (size_t)status.st_size};
 }
 
-static const Elf64_Shdr *section_named(const struct file *file, const char *name) {
+/* The section of a name; NULL if there is none. */
+static inline const Elf64_Shdr *find_section(const struct file *file, const char *name) {
     const Elf64_Ehdr *header = (const void *)file->bytes;
     const Elf64_Shdr *sections = (const void *)(file->bytes + header->e_shoff);
+    if (header->e_shnum == 0) return NULL;
     const char *names = (const char *)file->bytes + sections[header->e_shstrndx].sh_offset;
     for (int i = 0; i < header->e_shnum; i++)
         if (!strcmp(names + sections[i].sh_name, name)) return &sections[i];
-    abort();
+    return NULL;
+}
+
+static inline const Elf64_Shdr *section_named(const struct file *file, const char *name) {
+    const Elf64_Shdr *section = find_section(file, name);
+    if (!section) abort();
+    return section;
 }
