@@ -28,8 +28,7 @@ out := build
 CC := $(call default,CC,cc)
 AR := $(call default,AR,ar)
 OBJCOPY := $(call default,OBJCOPY,objcopy)
-unwind := $(addprefix $(out)/unwind/,libunwind.so.8 libunwind-x86_64.so.8 libunwind-ptrace.so.0)
-unwind_folders := c/unwind/x86_64 c/unwind/remote
+unwind_folders := c/unwind/x86_64
 unwind_needs := -Wl,--no-as-needed -lgcc_s
 else ifeq ($(ARCH),aarch64)
 out := build/aarch64
@@ -38,12 +37,12 @@ AR := $(call default,AR,aarch64-linux-gnu-ar)
 OBJCOPY := $(call default,OBJCOPY,aarch64-linux-gnu-objcopy)
 protection := -mbranch-protection=standard -mno-outline-atomics
 plain_link := -nostartfiles
-unwind := $(addprefix $(out)/unwind/,libunwind.so.8 libunwind-aarch64.so.8)
 unwind_folders := c/unwind/aarch64
 unwind_needs :=
 else
 $(error ARCH is x86_64 or aarch64)
 endif
+unwind := $(addprefix $(out)/unwind/,libunwind.so.8 libunwind-$(ARCH).so.8 libunwind-ptrace.so.0)
 
 # The version of the C interface. Its major and minor numbers are those of DWCHECK_VERSION in the
 # header.
@@ -152,8 +151,7 @@ $(out)/libdwcheck-dl.so.$(version): $(out)/libdwcheck-dl.a $(out)/libdwcheck.so.
 	    $(RUNPATH) -Wl,--whole-archive $< -Wl,--no-whole-archive $(out)/libdwcheck.so.$(version) -o $@
 
 # libunwind's calls over the library, under libunwind's names: in a folder of their own, so that only programs that are
-# told to find them. On x86-64, libgcc_s has the calls for exceptions, which libunwind has there too. For aarch64 they are
-# for the stacks of the running process alone.
+# told to find them. On x86-64, libgcc_s has the calls for exceptions, which libunwind has there too.
 unwind_flags := -std=gnu11 -D_GNU_SOURCE -O2 -flto -fPIC -fstack-clash-protection -fasynchronous-unwind-tables $(protection) \
     -Wall -Wextra -Ic/include
 unwind_links := -shared $(plain_link) -Wl,-z,defs -Wl,-z,now -Wl,-Bsymbolic-functions
@@ -162,7 +160,7 @@ $(out)/unwind/%.map: c/unwind/%.map
 	@mkdir -p $(@D)
 	@sed 's/x86_64/$(ARCH)/' $< >$@
 
-$(out)/unwind/libunwind.so.8: $(wildcard c/unwind/*.[ch] c/unwind/remote/*.h) $(wildcard $(addsuffix /*,$(unwind_folders))) \
+$(out)/unwind/libunwind.so.8: $(wildcard c/unwind/*.[ch] c/unwind/remote/*) $(wildcard $(addsuffix /*,$(unwind_folders))) \
     $(out)/unwind/libunwind.map c/include/dwcheck-unwind.h $(out)/libdwcheck-dl.a $(out)/libdwcheck.a
 	$(CC) $(unwind_flags) $(filter %.c %.S,$^) $(out)/libdwcheck-dl.a $(out)/libdwcheck.a $(unwind_links) -Wl,-soname,libunwind.so.8 \
 	    -Wl,--version-script=$(out)/unwind/libunwind.map $(unwind_needs) -o $@
@@ -172,9 +170,10 @@ $(out)/unwind/libunwind-$(ARCH).so.8: $(wildcard c/unwind/generic/*) c/include/d
 	$(CC) $(unwind_flags) $(filter %.c %.S,$^) $(out)/unwind/libunwind.so.8 $(unwind_links) \
 	    -Wl,-rpath,'$$ORIGIN' -Wl,-soname,libunwind-$(ARCH).so.8 -Wl,--version-script=$(out)/unwind/generic/names.map -o $@
 
-build/unwind/libunwind-ptrace.so.0: $(wildcard c/unwind/ptrace/*) c/unwind/symbols.c c/unwind/unwind.h c/include/dwcheck-unwind.h build/unwind/libunwind-x86_64.so.8
-	$(CC) $(unwind_flags) $(wildcard c/unwind/ptrace/*.c) c/unwind/symbols.c build/unwind/libunwind-x86_64.so.8 $(unwind_links) \
-	    -Wl,-rpath-link,build/unwind -Wl,-rpath,'$$ORIGIN' -Wl,-soname,libunwind-ptrace.so.0 -Wl,--version-script=c/unwind/ptrace/libunwind-ptrace.map -o $@
+$(out)/unwind/libunwind-ptrace.so.0: $(wildcard c/unwind/ptrace/*) c/unwind/symbols.c c/unwind/unwind.h c/include/dwcheck-unwind.h \
+    $(out)/unwind/libunwind-$(ARCH).so.8
+	$(CC) $(unwind_flags) $(wildcard c/unwind/ptrace/*.c) c/unwind/symbols.c $(out)/unwind/libunwind-$(ARCH).so.8 $(unwind_links) \
+	    -Wl,-rpath-link,$(out)/unwind -Wl,-rpath,'$$ORIGIN' -Wl,-soname,libunwind-ptrace.so.0 -Wl,--version-script=c/unwind/ptrace/libunwind-ptrace.map -o $@
 
 $(out)/%.pc: c/%.pc.in FORCE | $(out)
 	@sed -e 's|@PREFIX@|$(PREFIX)|' -e 's|@LIBDIR@|$(patsubst $(PREFIX)/%,$${prefix}/%,$(LIBDIR))|' \

@@ -18,7 +18,7 @@ x86_64)
     ;;
 aarch64)
     built=build/aarch64 loader=ld-linux-aarch64.so.1
-    unwind="unwind/libunwind.so.8 unwind/libunwind-aarch64.so.8"
+    unwind="unwind/libunwind.so.8 unwind/libunwind-aarch64.so.8 unwind/libunwind-ptrace.so.0"
     root=build/arm64-root
     run="qemu-aarch64 -L $root"
     ;;

@@ -143,10 +143,11 @@ bool dwcheck_dl_is_nowhere(const ucontext_t *context) {
            && (class == UNKNOWN || class == OF_FETCH || class == OF_ALIGNMENT);
 }
 
+const uint32_t dwcheck_dl_return_of_signal[] = {0xd2801168, 0xd4000001};
+
 /* They return to the system call rt_sigreturn: in the vDSO, for which no row is, or in a C library. */
 bool dwcheck_dl_is_return_of_signal(uint64_t address) {
-    static const uint32_t code[] = {0xd2801168, 0xd4000001}; /* mov x8, #139; svc #0 */
-    return address % INSTRUCTION == 0 && dwcheck_dl_is_code(address, code, sizeof code);
+    return address % INSTRUCTION == 0 && dwcheck_dl_is_code(address, dwcheck_dl_return_of_signal, sizeof dwcheck_dl_return_of_signal);
 }
 
 /* ---- code */
@@ -163,25 +164,26 @@ static bool is_among(const struct pattern *patterns, size_t count, uint32_t word
 }
 
 /* These are bl, blr, and blr that authenticates with or without a modifier. */
-bool dwcheck_dl_follows_call(uint64_t address) {
+bool dwcheck_dl_is_call(uint32_t instruction) {
     static const struct pattern calls[] = {
         {0xfc000000, 0x94000000}, {0xfffffc1f, 0xd63f0000}, {0xfffff81f, 0xd63f081f}, {0xfffff800, 0xd73f0800}};
+    return is_among(calls, sizeof calls / sizeof *calls, instruction);
+}
+
+bool dwcheck_dl_follows_call(uint64_t address) {
     uint32_t word;
     if (address % INSTRUCTION != 0 || address < INSTRUCTION || !dwcheck_dl_is_readable(address - INSTRUCTION)) return false;
     memcpy(&word, (const void *)(uintptr_t)(address - INSTRUCTION), sizeof word);
-    return is_among(calls, sizeof calls / sizeof *calls, word);
+    return dwcheck_dl_is_call(word);
 }
 
-/* How many bytes an entry of a procedure linkage table has pushed, for which linkers write no rows; -1 if no such entry
-   has this code. It is: bti c; adrp x16; ldr x17, [x16, ..]; add x16, x16, ..; autia1716; br x17; and nop. The first entry
-   begins with stp x16, x30, [sp, #-16]!. */
-static int pushed_in_linkage_table(uint64_t address) {
-    enum { LONGEST = 7, BRANCH = 0xd61f0220, SAVES = 0xa9bf7bf0, SAVED = 16 };
+/* Linkers write no rows for such entries. One is: bti c; adrp x16; ldr x17, [x16, ..]; add x16, x16, ..; autia1716; br x17;
+   and nop. The first entry begins with stp x16, x30, [sp, #-16]!. */
+int dwcheck_dl_pushed_in_linkage_table(const uint32_t *at) {
+    enum { LONGEST = DWCHECK_DL_NEAR, BRANCH = 0xd61f0220, SAVES = 0xa9bf7bf0, SAVED = 16 };
     static const struct pattern entry[] = {{0xffffffff, 0xd503245f}, {0x9f00001f, 0x90000010}, {0xffc003ff, 0xf9400211},
                                            {0xffc003ff, 0x91000210}, {0xffffffff, 0xd503219f}, {0xffffffff, 0xd503201f}};
-    const uint32_t *at = (const uint32_t *)(uintptr_t)address;
     int before = 0, after = 0;
-    if (!dwcheck_dl_is_readable(address - LONGEST * INSTRUCTION) || !dwcheck_dl_is_readable(address + LONGEST * INSTRUCTION)) return -1;
     if (at[0] == SAVES) after++;
     while (after < LONGEST && is_among(entry, sizeof entry / sizeof *entry, at[after])) after++;
     while (before < LONGEST - 1 && is_among(entry, sizeof entry / sizeof *entry, at[-1 - before])) before++;
@@ -194,8 +196,11 @@ static bool is_in_vdso(uint64_t address) {
 }
 
 int dwcheck_dl_pushed_without_row(uint64_t address) {
+    enum { NEAR = DWCHECK_DL_NEAR * INSTRUCTION };
     if (address % INSTRUCTION != 0 || !dwcheck_dl_is_readable(address)) return -1;
-    return is_in_vdso(address) ? 0 : pushed_in_linkage_table(address);
+    if (is_in_vdso(address)) return 0;
+    if (!dwcheck_dl_is_readable(address - NEAR) || !dwcheck_dl_is_readable(address + NEAR)) return -1;
+    return dwcheck_dl_pushed_in_linkage_table((const uint32_t *)(uintptr_t)address);
 }
 
 /* The call has put it into x30. */

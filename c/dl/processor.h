@@ -90,6 +90,16 @@ DWCHECK_DL_HIDDEN bool dwcheck_dl_follows_call(uint64_t address);
    known to do nothing else to the stack, and to leave the return address where a call puts it; else -1. */
 DWCHECK_DL_HIDDEN int dwcheck_dl_pushed_without_row(uint64_t address);
 
+#if defined(__aarch64__)
+/* Whether an instruction is a call. And how many bytes the entry of a procedure linkage table that has the instruction `at`
+   has pushed before it, or -1 if there is none: DWCHECK_DL_NEAR instructions before it and after it may be read. */
+enum { DWCHECK_DL_NEAR = 7 };
+DWCHECK_DL_HIDDEN bool dwcheck_dl_is_call(uint32_t instruction);
+DWCHECK_DL_HIDDEN int dwcheck_dl_pushed_in_linkage_table(const uint32_t *at);
+/* What handlers return to: mov x8, #139; svc #0. */
+DWCHECK_DL_HIDDEN extern const uint32_t dwcheck_dl_return_of_signal[2];
+#endif
+
 /* Where a call that has done nothing else returns to; 0 if that can't be read. */
 DWCHECK_DL_HIDDEN uint64_t dwcheck_dl_return_address(const dwcheck_dl_place *place, dwcheck_block *stack);
 

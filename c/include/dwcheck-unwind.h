@@ -1,8 +1,8 @@
 /* dwcheck-unwind: libunwind's calls for the stacks of the running process and of others, over the walks of dwcheck.h. The
    libraries build/unwind/libunwind.so.8, libunwind-x86_64.so.8 and libunwind-ptrace.so.0 have the names and the binary
    interface of libunwind 1.6 and 1.8 for x86-64 Linux with glibc 2.35 or later: a program that is linked to libunwind uses
-   them by its library path alone. For aarch64, build/aarch64/unwind has libunwind.so.8 and libunwind-aarch64.so.8, for the
-   stacks of the running process alone.
+   them by its library path alone. For aarch64, build/aarch64/unwind has the same, and libunwind-aarch64.so.8 in place of
+   the second one.
    This header is for programs that are built new; it declares the same names and types as <libunwind.h>, so a file
    includes one of the two. The rows of frames are looked up and walked by proved calls; the rest is plain C, which is
    tested and not proved.
@@ -31,10 +31,12 @@
    - unw_resume leaves the floating-point environment as it is, and a DW_CFA_GNU_args_size counts as nothing.
    - Names aren't looked for in compressed debug information (.gnu_debugdata), nor in a file that was replaced since.
    - unw_set_iterate_phdr_function does nothing: modules are those that the loader knows.
-   - On aarch64, unw_getcontext is a call of this library's own, and there are no address spaces but the local one. An address
-     is given without its signature, and one that is written gets none. Registers of floating-point numbers aren't known,
-     and unw_resume leaves them as they are. Where code without a row has made a call, the caller is found by x29, while
-     libunwind 1.6 gives the frame again. libunwind 1.8 ends a walk before a frame whose x29 is 0; here it goes on by rows.
+   - On aarch64, unw_getcontext is a call of this library's own. An address is given without its signature, and one that is
+     written gets none. Registers of floating-point numbers aren't known, and unw_resume leaves them as they are. Where code
+     without a row has made a call, the caller is found by x29, while libunwind 1.6 gives the frame again. libunwind 1.8 ends
+     a walk before a frame whose x29 is 0; here it goes on by rows. Of another process, records of functions are kept, and no
+     rows; a signature is what this processor takes for one, and no accessor is asked for it; and where no row covers a
+     frame, the accessor has to read its code, since a signal handler may return there.
    - _ReadULEB, _ReadSLEB and __libunwind_Unwind_GetBSP, which are helpers of libunwind's, aren't there, and the calls for
      exceptions and backtrace are those of libgcc_s and the C library. */
 #ifndef DWCHECK_UNWIND_H

@@ -13,8 +13,41 @@
 #include <stdio.h>
 #include <stdlib.h>
 #include <string.h>
-#include <sys/uio.h>
 #include <unistd.h>
+
+/* What is of the processor: the name that libunwind gives a call, the registers of which walks know and those that are compared,
+   where contexts have them, and a CIE. */
+#if defined(__x86_64__)
+#define NAME(call) "_Ux86_64_" #call
+enum { REGISTERS = UNW_X86_64_RIP + 1, COMPARED = UNW_REG_LAST + 1, MOST_SEARCHES = 2, WITHOUT_PLACE = -1 };
+static const int in_context[REGISTERS] = {REG_RAX, REG_RDX, REG_RCX, REG_RBX, REG_RSI, REG_RDI, REG_RBP, REG_RSP, REG_R8,
+                                          REG_R9,  REG_R10, REG_R11, REG_R12, REG_R13, REG_R14, REG_R15, REG_RIP};
+static inline uint64_t register_of(const unw_context_t *context, int number) {
+    return (uint64_t)context->uc_mcontext.gregs[in_context[number]];
+}
+static inline bool is_last_of_theirs(unw_cursor_t *cursor) { return (void)cursor, false; }
+static const uint8_t cie[20] = {16, 0, 0, 0, 0, 0, 0, 0, 1, 'z', 'R', 0, 1, 0x78, 16, 1, 0x1b, 0x0c, 7, 8};
+#else
+#define NAME(call) "_Uaarch64_" #call
+enum { REGISTERS = UNW_AARCH64_PSTATE + 1, COMPARED = UNW_AARCH64_SP + 1, MOST_SEARCHES = 3, WITHOUT_PLACE = UNW_AARCH64_SP /* of which 1.8 has none */ };
+static inline uint64_t register_of(const unw_context_t *context, int number) {
+    const struct unw_sigcontext *registers = &context->uc_mcontext;
+    return number < UNW_AARCH64_SP ? registers->regs[number] : number == UNW_AARCH64_SP ? registers->sp
+           : number == UNW_AARCH64_PC ? registers->pc : registers->pstate;
+}
+/* libunwind 1.8 ends a walk at a frame whose x29 is 0. */
+static inline bool is_last_of_theirs(unw_cursor_t *cursor) {
+    unw_word_t value;
+    return unw_get_reg(cursor, UNW_AARCH64_X29, &value) == 0 && value == 0;
+}
+static const uint8_t cie[20] = {16, 0, 0, 0, 0, 0, 0, 0, 1, 'z', 'R', 0, 1, 0x78, 30, 1, 0x1b, 0x0c, 31, 0};
+#endif
+/* Under qemu-user, for which EMULATED is defined, there is no ptrace, and all takes longer. */
+#if defined(EMULATED)
+enum { HAS_PTRACE = 0, WALKS = 200, LIES_TOLD = 300, RECORDS = 800 };
+#else
+enum { HAS_PTRACE = 1, WALKS = 2000, LIES_TOLD = 3000, RECORDS = 8000 };
+#endif
 
 enum { ROOM = 100, FAILURE = -77, MOST_WORDS_OF_A_STEP = 4096 };
 static int wrong, checks;
@@ -37,7 +70,8 @@ static unsigned long any(void) { /* xorshift64* */
 enum trouble { NO_TROUBLE, FAILS, LIES, STEPS, LEAVES };
 
 static struct {
-    uint64_t registers[17];
+    uint64_t registers[REGISTERS];
+    int pipe[2];
     enum trouble trouble;
     long asked, trouble_at, searches;
     unw_cursor_t *cursor;
@@ -71,12 +105,17 @@ static void note(uint64_t address) {
     if (target.count < MOST_WORDS_OF_A_STEP) target.words[target.count++] = address;
 }
 
+/* The kernel says what can be read, when it copies that into a pipe. */
+static bool copy(uint64_t address, unw_word_t *value) {
+    return write(target.pipe[1], (const void *)address, sizeof *value) == (ssize_t)sizeof *value
+           && read(target.pipe[0], value, sizeof *value) == (ssize_t)sizeof *value;
+}
+
 static int access_mem(unw_addr_space_t space, unw_word_t address, unw_word_t *value, int is_write, void *context) {
-    struct iovec here = {value, sizeof *value}, there = {(void *)address, sizeof *value};
     (void)space, (void)context;
     if (is_write) return -UNW_EINVAL;
     if (target.trouble != LIES && !target.is_silent) note(address);
-    if (process_vm_readv(getpid(), &here, 1, &there, 1, 0) != (ssize_t)sizeof *value) return -UNW_EINVAL;
+    if (!copy(address, value)) return -UNW_EINVAL;
     const bool is_now = target.trouble == LIES ? any() % 16 == 0 : target.asked == target.trouble_at;
     target.asked++;
     return is_now ? make_trouble(value) : 0;
@@ -84,7 +123,7 @@ static int access_mem(unw_addr_space_t space, unw_word_t address, unw_word_t *va
 
 static int access_reg(unw_addr_space_t space, unw_regnum_t number, unw_word_t *value, int is_write, void *context) {
     (void)space, (void)context;
-    if (is_write || number < 0 || number > UNW_REG_LAST) return -UNW_EBADREG;
+    if (is_write || number < 0 || number >= REGISTERS) return -UNW_EBADREG;
     *value = target.registers[number];
     return 0;
 }
@@ -157,17 +196,13 @@ static void begin(unw_cursor_t *cursor, unw_addr_space_t space, enum trouble tro
 /* What is tried on the stack. */
 static void try_all(void);
 
-/* The order of DWARF in that of a context. */
-static const int in_context[17] = {REG_RAX, REG_RDX, REG_RCX, REG_RBX, REG_RSI, REG_RDI, REG_RBP, REG_RSP, REG_R8,
-                                   REG_R9,  REG_R10, REG_R11, REG_R12, REG_R13, REG_R14, REG_R15, REG_RIP};
-
 /* Walks begin here: in the handler of a signal that has interrupted a callback of the C library. */
 static __attribute__((noinline)) void at_stack(int signal) {
     unw_context_t context;
     (void)signal;
     frame_count = backtrace(frames, ROOM);
     unw_getcontext(&context);
-    for (int i = 0; i < 17; i++) target.registers[i] = (uint64_t)context.uc_mcontext.gregs[in_context[i]];
+    for (int i = 0; i < REGISTERS; i++) target.registers[i] = register_of(&context, i);
     try_all();
 }
 
@@ -183,7 +218,7 @@ static __attribute__((noinline)) int deeper(int depth) {
     return numbers[0];
 }
 
-/* A frame whose place depends on its own contents, so that rbp leads to it. */
+/* A frame whose size depends on its own contents, so that the frame pointer leads to it. */
 static __attribute__((noinline)) int with_room(int size) {
     volatile char *room = __builtin_alloca((size_t)size);
     room[0] = 1;
@@ -191,6 +226,7 @@ static __attribute__((noinline)) int with_room(int size) {
 }
 
 static int on_the_stack(int argc) {
+    if (pipe(target.pipe)) return 2;
     signal(SIGUSR1, at_stack);
     with_room(argc * 100);
     printf("%d checks: %d wrong\n", checks, wrong);

@@ -41,11 +41,11 @@ static void trouble_at_any_word_changes_no_frame(unw_caching_policy_t policy) {
 
 static void words_that_lie_get_an_answer(unw_caching_policy_t policy) {
     unw_addr_space_t space = new_space(policy);
-    for (int i = 0; i < 3000; i++) {
+    for (int i = 0; i < LIES_TOLD; i++) {
         unw_cursor_t cursor;
         unw_word_t value;
         begin(&cursor, space, LIES, -1);
-        for (int j = 0; j < 30 && step(&cursor) > 0; j++) unw_get_reg(&cursor, (int)(any() % 17), &value);
+        for (int j = 0; j < 30 && step(&cursor) > 0; j++) unw_get_reg(&cursor, (int)(any() % REGISTERS), &value);
     }
     target.trouble = NO_TROUBLE;
     unw_destroy_addr_space(space);
@@ -74,7 +74,6 @@ static void accessors_that_are_missing_get_an_answer(void) {
 
 /* A table of one entry, its FDE at the end of a page after which nothing can be read, and the CIE. */
 struct page { int32_t table[2]; uint8_t cie[20]; };
-static const uint8_t cie[20] = {16, 0, 0, 0, 0, 0, 0, 0, 1, 'z', 'R', 0, 1, 0x78, 16, 1, 0x1b, 0x0c, 7, 8};
 
 static int search(unw_addr_space_t space, struct page *page, uint64_t entries, int32_t fde, unw_proc_info_t *info) {
     unw_dyn_info_t table = {.start_ip = (uint64_t)page, .end_ip = (uint64_t)page + 64, .format = UNW_INFO_FORMAT_REMOTE_TABLE};
@@ -85,34 +84,36 @@ static int search(unw_addr_space_t space, struct page *page, uint64_t entries, i
 }
 
 static void lengths_are_bounded(void) {
-    enum { PAGE = 4096, FDE = 24, AT = PAGE - FDE };
+    enum { FDE = 24 };
+    const size_t size = (size_t)sysconf(_SC_PAGESIZE);
+    const int32_t at = (int32_t)size - FDE;
     static const uint32_t lengths[] = {0, 3, 65533, 0xffffffef, 0xfffffff0, 0xffffffff};
-    uint8_t *memory = mmap(NULL, 2 * PAGE, PROT_READ | PROT_WRITE, MAP_PRIVATE | MAP_ANONYMOUS, -1, 0);
+    uint8_t *memory = mmap(NULL, 2 * size, PROT_READ | PROT_WRITE, MAP_PRIVATE | MAP_ANONYMOUS, -1, 0);
     struct page *page = (void *)memory;
     unw_addr_space_t space = new_space(UNW_CACHE_NONE);
     unw_proc_info_t info;
-    mprotect(memory + PAGE, PAGE, PROT_NONE);
+    mprotect(memory + size, size, PROT_NONE);
     memcpy(page->cie, cie, sizeof cie);
     /* The length, the distance to the CIE, the first address from there, how many there are, no augmentation data. */
-    const int32_t fde[] = {FDE - 4, (int32_t)(AT + 4 - offsetof(struct page, cie)), -(AT + 8), 64, 0, 0};
-    memcpy(memory + AT, fde, sizeof fde);
-    IS(search(space, page, 1, AT, &info), 0);
+    const int32_t fde[] = {FDE - 4, (int32_t)(at + 4 - offsetof(struct page, cie)), -(at + 8), 64, 0, 0};
+    memcpy(memory + at, fde, sizeof fde);
+    IS(search(space, page, 1, at, &info), 0);
     IS(info.start_ip, (uint64_t)page);
     IS(info.end_ip, (uint64_t)page + 64);
-    IS((uint64_t)info.unwind_info, (uint64_t)memory + AT);
+    IS((uint64_t)info.unwind_info, (uint64_t)memory + at);
     for (size_t i = 0; i < sizeof lengths / sizeof *lengths; i++) {
-        memcpy(memory + AT, &lengths[i], sizeof lengths[i]);
-        IS(search(space, page, 1, AT, &info) < 0, 1);
+        memcpy(memory + at, &lengths[i], sizeof lengths[i]);
+        IS(search(space, page, 1, at, &info) < 0, 1);
         IS(target.asked <= 4, 1);
     }
-    memcpy(memory + AT, fde, sizeof fde);
+    memcpy(memory + at, fde, sizeof fde);
     const uint64_t counts[] = {UINT64_C(1) << 32, UINT64_C(1) << 61, UINT64_MAX};
     for (int i = 0; i < 3; i++) {
-        search(space, page, counts[i], AT, &info);
+        search(space, page, counts[i], at, &info);
         IS(target.asked <= 80, 1);
     }
     unw_destroy_addr_space(space);
-    munmap(memory, 2 * PAGE);
+    munmap(memory, 2 * size);
 }
 
 /* ---- what find_proc_info and records may be ---- */
@@ -160,7 +161,7 @@ static void any_bytes_of_a_record_get_an_answer(unw_caching_policy_t policy) {
     unw_set_caching_policy(space, policy);
     said.result = 0;
     said.info = (unw_proc_info_t){.format = UNW_INFO_FORMAT_TABLE, .unwind_info = records.fde};
-    for (int i = 0; i < 8000; i++) {
+    for (int i = 0; i < RECORDS; i++) {
         const int32_t head[4] = {sizeof head - 4 + sizeof records.program, sizeof records.cie + 4, 0, 256};
         memcpy(records.cie, cie, sizeof cie), memcpy(records.fde, head, sizeof head);
         for (size_t j = 0; j < sizeof records.program; j++) records.program[j] = j > 0 ? (uint8_t)any() : 0;
@@ -215,7 +216,7 @@ static void try_all(void) {
     any_description_gets_an_answer();
     any_bytes_of_a_record_get_an_answer(UNW_CACHE_NONE);
     any_bytes_of_a_record_get_an_answer(UNW_CACHE_GLOBAL);
-    a_process_may_die();
+    if (HAS_PTRACE) a_process_may_die();
 }
 
 int main(int argc, char **argv) {

@@ -109,8 +109,10 @@ int unw_get_save_loc(unw_cursor_t *cursor, int number, unw_save_loc_t *location)
 }
 
 int unw_is_signal_frame(unw_cursor_t *cursor) {
-    const struct frame *frame = frame_of(cursor);
-    return frame ? dwcheck_unwind_is_signal_frame(frame) : -UNW_EINVAL;
+    const struct cursor *own = cursor_of(cursor);
+    const struct remote_cursor *remote = own ? NULL : dwcheck_remote_cursor(cursor);
+    if (remote) return dwcheck_remote_is_signal_frame(remote);
+    return own ? dwcheck_unwind_is_signal_frame(&own->frame) : -UNW_EINVAL;
 }
 
 int unw_is_guess(unw_cursor_t *cursor) {

@@ -12,7 +12,8 @@
    far above the stack pointer of the code to which handlers return the kernel's context lies, of which walks read
    CONTEXT_LENGTH bytes. ROW_REGISTERS are those that a row may restore besides the address, and PLACED_REGISTERS those
    whose places unw_get_save_loc says. A walk with kept rows needs the KEPT_REGISTERS, and in a frame that has made a
-   call, those that are CHANGED_BY_CALLS aren't the frame's. */
+   call, those that are CHANGED_BY_CALLS aren't the frame's. A guess needs the frame pointer, and in a frame that has
+   made no call, those registers too. */
 #if defined(__aarch64__)
 enum { X0 = 0, FIRST_KEPT = 19, FP = 29, LR = 30, SP = 31, IP = 32, PSTATE = 33, REGISTERS = 34, ROW_REGISTERS = 32 };
 enum { SAVED_CONTEXT = 128, CONTEXT_LENGTH = offsetof(unw_context_t, uc_mcontext.__reserved) };

@@ -143,6 +143,11 @@ struct unw_addr_space {
     struct kept_rows *kept;
 };
 
+#if defined(__aarch64__)
+/* Reads an instruction, or returns false. */
+HIDDEN bool dwcheck_unwind_instruction_at(const struct word_reader *memory, uint64_t address, uint32_t *code);
+#endif
+
 /* ---- of each processor (x86_64/, aarch64/), registers.c ---- */
 
 HIDDEN uint64_t *dwcheck_unwind_in_context(ucontext_t *context, int number);

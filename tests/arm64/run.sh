@@ -52,7 +52,7 @@ is_protected() { # LIBRARY: whether its note says that return addresses are sign
 # For libraries that the loader marks, each address to which an indirect jump leads begins with one of these.
 are_protected() {
     local library
-    for library in "$built/libdwcheck.so.$version" "$built/libdwcheck-dl.so.$version" "$built"/unwind/*.so.8; do
+    for library in "$built/libdwcheck.so.$version" "$built/libdwcheck-dl.so.$version" "$built"/unwind/*.so.?; do
         is_protected "$library" || return 1
     done
 }
@@ -128,12 +128,13 @@ names_in() { # LIBRARY..: the names that they export
     nm -D --defined-only "$@" | awk 'NF == 3 { print $3 }' | sort -u
 }
 
-# Each name that the two libraries of libunwind's export, but for one that programs find in the C library.
+# Each name that the three libraries of libunwind's export, but for one that programs find in the C library, and one of 1.8.
 unwind_names() {
     local folder
     for folder in "$root" "$newer"; do
-        names_in "$folder/$libraries"/libunwind.so.8 "$folder/$libraries"/libunwind-aarch64.so.8 | grep -vx backtrace > "$out/wanted"
-        [ "$(wc -l < "$out/wanted")" -gt 50 ] && [ -z "$(comm -13 <(names_in "$built"/unwind/*.so.8) "$out/wanted")" ] || return 1
+        names_in "$folder/$libraries"/{libunwind.so.8,libunwind-aarch64.so.8,libunwind-ptrace.so.0} |
+            grep -vx 'backtrace\|_UPT_get_elf_filename' > "$out/wanted"
+        [ "$(wc -l < "$out/wanted")" -gt 60 ] && [ -z "$(comm -13 <(names_in "$built"/unwind/*.so.?) "$out/wanted")" ] || return 1
     done
 }
 
@@ -150,6 +151,16 @@ unwind() { # PROGRAM FLAG..: builds a test of libunwind's calls, and runs it bes
         -Wl,-rpath,"$built/unwind" -Wl,-z,lazy -o "$out/$program" -pthread -ldl || return 1
     for folder in ${roots:-"$root" "$newer"}; do
         emulate "$folder" "$program" "$folder/$libraries/libunwind.so.8" || return 1
+    done
+}
+
+# Tests of these calls for other processes, beside libunwind 1.6 and 1.8. qemu-user has no ptrace: the process is the test's own.
+unwind_remote() { # PROGRAM
+    local folder
+    aarch64-linux-gnu-gcc -std=gnu11 -D_GNU_SOURCE -DEMULATED $strict -O2 -g "$top/c/tests/$1.c" "$built/unwind/libunwind-ptrace.so.0" \
+        "$built/unwind/libunwind.so.8" -Wl,-rpath,"$built/unwind" -Wl,-rpath-link,"$built/unwind" -o "$out/$1" -pthread -ldl || return 1
+    for folder in "$root" "$newer"; do
+        emulate "$folder" "$1" "$folder/$libraries/libunwind-aarch64.so.8" || return 1
     done
 }
 
@@ -217,6 +228,8 @@ test_of "arm64: the libraries with libunwind's names export all of them" unwind_
 test_of "arm64: frames by libunwind's calls are those of libunwind" unwind unwind
 test_of "arm64: the same with signed return addresses" unwind_signed
 test_of "arm64: libunwind's calls answer cursors and contexts of any bytes" unwind unwind_input
+test_of "arm64: frames of other processes are those of libunwind" unwind_remote unwind_remote
+test_of "arm64: libunwind's calls bear accessors that fail, lie, step and leave" unwind_remote unwind_remote_input
 test_of "arm64: walks from contexts of any registers, with pages of 64 KB" large_pages c_test dl_contexts
 test_of "arm64: stacks with pages of 64 KB, while libraries come and go" large_pages modules
 test_of "arm64: the cases of the program dwcheck" program

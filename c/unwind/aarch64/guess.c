@@ -4,9 +4,26 @@
 #include "../../dl/processor.h"
 #include "../unwind.h"
 
+enum { INSTRUCTION = 4 };
+
 static bool is_readable(const struct word_reader *memory, uint64_t address) {
     uint64_t word;
     return memory->read(memory->data, address & -sizeof word, &word);
+}
+
+static bool follows_call(const struct word_reader *memory, uint64_t address) {
+    uint32_t before;
+    return dwcheck_unwind_instruction_at(memory, address - INSTRUCTION, &before) && dwcheck_dl_is_call(before);
+}
+
+/* How many bytes the code at an address has pushed, if it is known; else -1. Of this process, that of the vDSO is known too. */
+static int pushed_at(const struct word_reader *memory, uint64_t address) {
+    enum { NEAR = DWCHECK_DL_NEAR };
+    uint32_t code[2 * NEAR + 1];
+    if (memory == &dwcheck_unwind_own_memory) return dwcheck_dl_pushed_without_row(address);
+    for (int i = 0; i <= 2 * NEAR; i++)
+        if (!dwcheck_unwind_instruction_at(memory, address + (uint64_t)(i - NEAR) * INSTRUCTION, &code[i])) return -1;
+    return dwcheck_dl_pushed_in_linkage_table(code + NEAR);
 }
 
 /* Continues at a caller. */
@@ -20,10 +37,10 @@ static int go_to(struct frame *frame, uint64_t address, uint64_t stack_pointer, 
 }
 
 /* The registers but for x30 are the caller's. `pushed` bytes are on the stack. */
-static int after_call(struct frame *frame, struct place *places, uint64_t pushed, uint32_t guess) {
+static int after_call(struct frame *frame, struct place *places, const struct word_reader *memory, uint64_t pushed, uint32_t guess) {
     if (!(frame->known >> LR & 1)) return -UNW_EUNSPEC;
     const uint64_t address = dwcheck_dl_unsigned(frame->values[LR]);
-    if (!dwcheck_dl_follows_call(address)) return -UNW_ENOINFO;
+    if (!follows_call(memory, address)) return -UNW_ENOINFO;
     if (places) places[IP] = places[LR], places[LR] = (struct place){0};
     return go_to(frame, address, frame->values[SP] + pushed, guess);
 }
@@ -53,8 +70,8 @@ static int by_frame_pointer(struct frame *frame, struct place *places, const str
 int dwcheck_unwind_guess(struct frame *frame, struct place *places, const struct word_reader *memory) {
     const uint64_t address = frame->values[IP];
     const bool has_code = is_readable(memory, address), is_exact = frame->key != address;
-    const int pushed = has_code ? dwcheck_dl_pushed_without_row(address) : -1;
-    if (pushed >= 0 && after_call(frame, places, (uint64_t)pushed, UNW_GUESS_PLT) > 0) return 1;
-    if ((!has_code || is_exact) && after_call(frame, places, 0, UNW_GUESS_CALL) > 0) return 1;
+    const int pushed = has_code ? pushed_at(memory, address) : -1;
+    if (pushed >= 0 && after_call(frame, places, memory, (uint64_t)pushed, UNW_GUESS_PLT) > 0) return 1;
+    if ((!has_code || is_exact) && after_call(frame, places, memory, 0, UNW_GUESS_CALL) > 0) return 1;
     return by_frame_pointer(frame, places, memory);
 }

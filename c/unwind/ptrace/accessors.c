@@ -6,13 +6,6 @@
 #include <stdlib.h>
 #include <string.h>
 #include <sys/ptrace.h>
-#include <sys/user.h>
-
-/* Where ptrace has the registers, by their DWARF numbers. */
-#define AT(field) (int)offsetof(struct user_regs_struct, field)
-extern const int _UPT_reg_offset[UNW_REG_LAST + 1];
-const int _UPT_reg_offset[UNW_REG_LAST + 1] = {AT(rax), AT(rdx), AT(rcx), AT(rbx), AT(rsi), AT(rdi), AT(rbp), AT(rsp), AT(r8),
-                                               AT(r9),  AT(r10), AT(r11), AT(r12), AT(r13), AT(r14), AT(r15), AT(rip)};
 
 void *_UPT_create(pid_t pid) {
     struct process *process = calloc(1, sizeof *process);
@@ -22,10 +15,10 @@ void *_UPT_create(pid_t pid) {
 
 void _UPT_destroy(void *context) { free(context); }
 
-/* Reads a word by one of ptrace's requests. */
-static int peek(enum __ptrace_request request, pid_t pid, uint64_t address, unw_word_t *value) {
+/* Reads a word of the process. */
+static int peek(pid_t pid, uint64_t address, unw_word_t *value) {
     errno = 0;
-    const long word = ptrace(request, pid, (void *)address, NULL);
+    const long word = ptrace(PTRACE_PEEKDATA, pid, (void *)address, NULL);
     if (errno) return -1;
     *value = (unw_word_t)word;
     return 0;
@@ -35,17 +28,8 @@ int _UPT_access_mem(unw_addr_space_t space, unw_word_t address, unw_word_t *valu
     const struct process *process = context;
     (void)space;
     if (!process || !value) return -UNW_EINVAL;
-    if (!is_write) return peek(PTRACE_PEEKDATA, process->pid, address, value) < 0 ? -UNW_EINVAL : 0;
+    if (!is_write) return peek(process->pid, address, value) < 0 ? -UNW_EINVAL : 0;
     return ptrace(PTRACE_POKEDATA, process->pid, (void *)address, (void *)*value) < 0 ? -UNW_EINVAL : 0;
-}
-
-int _UPT_access_reg(unw_addr_space_t space, unw_regnum_t number, unw_word_t *value, int is_write, void *context) {
-    const struct process *process = context;
-    (void)space;
-    if (!process || !value || number < 0 || number > UNW_REG_LAST) return -UNW_EBADREG;
-    const uint64_t place = (uint64_t)_UPT_reg_offset[number];
-    if (!is_write) return peek(PTRACE_PEEKUSER, process->pid, place, value) < 0 ? -UNW_EBADREG : 0;
-    return ptrace(PTRACE_POKEUSER, process->pid, (void *)place, (void *)*value) < 0 ? -UNW_EBADREG : 0;
 }
 
 /* No walk needs one. */
@@ -74,7 +58,7 @@ bool dwcheck_ptrace_read(pid_t pid, uint64_t address, void *bytes, size_t length
     for (size_t done = 0, part; done < length; done += part) {
         const size_t within = (address + done) % sizeof word;
         part = length - done < sizeof word - within ? length - done : sizeof word - within;
-        if (peek(PTRACE_PEEKDATA, pid, address + done - within, &word) < 0) return false;
+        if (peek(pid, address + done - within, &word) < 0) return false;
         memcpy((char *)bytes + done, (const char *)&word + within, part);
     }
     return true;

@@ -17,7 +17,7 @@ enum { TABLES = 16 };
 /* What _UPT_create gives: a process, and the tables that were found in it last. */
 struct process { pid_t pid; unsigned next; struct table tables[TABLES]; };
 
-/* ---- accessors.c ---- */
+/* ---- accessors.c; registers.c has _UPT_access_reg ---- */
 
 HIDDEN bool dwcheck_ptrace_read(pid_t pid, uint64_t address, void *bytes, size_t length);
 

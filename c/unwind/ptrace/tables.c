@@ -5,8 +5,8 @@
 #include <elf.h>
 #include <string.h>
 
-/* Programs have it from libunwind-x86_64.so.8, to which this library is linked. */
-int _Ux86_64_dwarf_search_unwind_table(unw_addr_space_t, unw_word_t, unw_dyn_info_t *, unw_proc_info_t *, int, void *);
+/* Programs have it from libunwind-x86_64.so.8 or libunwind-aarch64.so.8, to which this library is linked. */
+int UNW_ARCH_OBJ(dwarf_search_unwind_table)(unw_addr_space_t, unw_word_t, unw_dyn_info_t *, unw_proc_info_t *, int, void *);
 
 /* How .eh_frame_hdr begins, as linkers write it. */
 struct table_header { uint8_t version, of_section, of_count, of_table; int32_t section; uint32_t count; };
@@ -77,5 +77,5 @@ int _UPT_find_proc_info(unw_addr_space_t space, unw_word_t address, unw_proc_inf
     struct process *process = context;
     struct table *table = process ? dwcheck_ptrace_table(process, address) : NULL;
     if (!table) return -UNW_ENOINFO;
-    return _Ux86_64_dwarf_search_unwind_table(space, address, &table->info, info, need_unwind_info, context);
+    return UNW_ARCH_OBJ(dwarf_search_unwind_table)(space, address, &table->info, info, need_unwind_info, context);
 }

@@ -1,33 +1,22 @@
 /* Steps by an FDE and its CIE. A row that can be kept is kept, and the step is taken by it. Of any other row, the step asks for
    what the row says, and the proved step is taken with that. Where other registers are saved is noted, and asked for when
    somebody wants to know. */
+#include "../../dl/processor.h"
 #include "remote.h"
 
 #include <string.h>
 
-struct step {
-    struct remote_cursor *walk;
-    struct words *words;
-    uint64_t key, cfa; /* the address to look up, plus 1 */
-    dwcheck_module module;
-    dwcheck_row row;
-    dwcheck_rule rules[DWCHECK_MAX_RULES];
-    uint32_t is_signal_frame;
-};
-
-static const uint16_t callee_saved[] = {RBX, RBP, R12, R13, R14, R15};
-
 /* The registers and the memory that are known by now. */
-struct known { uint8_t bits[3]; dwcheck_block blocks[MOST_WORDS]; dwcheck_state state; };
+enum { KNOWN = (REGISTERS + 7) / 8 };
+struct known { uint8_t bits[KNOWN]; dwcheck_block blocks[MOST_WORDS]; dwcheck_state state; };
 
-static void collect(const struct step *step, struct known *known) {
+static void collect(const struct row_step *step, struct known *known) {
     const struct frame *frame = &step->walk->frame;
-    known->bits[0] = (uint8_t)frame->known, known->bits[1] = (uint8_t)(frame->known >> 8), known->bits[2] = frame->known >> 16 & 1;
-    known->state = (dwcheck_state){.contents = frame->values, .contents_length = REGISTERS, .known = known->bits,
-                                   .known_length = sizeof known->bits, .blocks = known->blocks,
-                                   .blocks_length = dwcheck_remote_blocks(step->words, known->blocks), .kept = callee_saved,
-                                   .kept_length = sizeof callee_saved / sizeof *callee_saved, .stack_pointer = RSP,
-                                   .has_stack_pointer = 1};
+    for (int i = 0; i < KNOWN; i++) known->bits[i] = (uint8_t)(frame->known >> 8 * i);
+    known->state = dwcheck_dl_state_of(known->blocks);
+    known->state.contents = frame->values, known->state.contents_length = REGISTERS;
+    known->state.known = known->bits, known->state.known_length = KNOWN;
+    known->state.blocks_length = dwcheck_remote_blocks(step->words, known->blocks);
 }
 
 /* ---- expressions ---- */
@@ -36,7 +25,7 @@ enum { BREG0 = 0x70, BREG31 = 0x8f, LONGEST = 16 /* of a longer one dwcheck_eval
 
 struct expression { const uint8_t *bytes; size_t length; uint32_t kind; };
 
-static uint32_t evaluate_with(const struct step *step, const struct expression *expression, size_t length, dwcheck_value *value) {
+static uint32_t evaluate_with(const struct row_step *step, const struct expression *expression, size_t length, dwcheck_value *value) {
     const dwcheck_context context = {.cfa = step->cfa, .has_cfa = expression->kind == DWCHECK_EXPRESSION_REGISTER};
     struct known known;
     dwcheck_fault fault;
@@ -47,10 +36,10 @@ static uint32_t evaluate_with(const struct step *step, const struct expression *
 
 /* Asks for what the operation at which an expression has stopped needs: a register, or the word whose address the operations
    before it leave. Returns whether more is known now. */
-static bool provide(const struct step *step, const struct expression *expression, uint32_t offset) {
+static bool provide(const struct row_step *step, const struct expression *expression, uint32_t offset) {
     const uint8_t operation = expression->bytes[offset];
     const unsigned count = step->words->count;
-    const uint32_t before = step->walk->frame.known;
+    const uint64_t before = step->walk->frame.known;
     dwcheck_value address;
     uint64_t word;
     if (operation >= BREG0 && operation <= BREG31)
@@ -61,7 +50,7 @@ static bool provide(const struct step *step, const struct expression *expression
 }
 
 /* The value of a rule's expression; or false if it has none. */
-static bool evaluate(const struct step *step, const dwcheck_rule *rule, uint32_t kind, uint64_t *result) {
+static bool evaluate(const struct row_step *step, const dwcheck_rule *rule, uint32_t kind, uint64_t *result) {
     const struct expression expression = {step->module.frame + rule->offset, rule->length, kind};
     dwcheck_value value;
     if (rule->length > LONGEST || (uint64_t)rule->offset + rule->length > step->module.frame_length) return false;
@@ -74,7 +63,7 @@ static bool evaluate(const struct step *step, const dwcheck_rule *rule, uint32_t
 
 /* ---- what is asked for ---- */
 
-static bool find_cfa(struct step *step) {
+static bool find_cfa(struct row_step *step) {
     const dwcheck_rule *cfa = &step->row.cfa;
     if (cfa->kind == DWCHECK_RULE_VAL_EXPRESSION) return evaluate(step, cfa, DWCHECK_EXPRESSION_CFA, &step->cfa);
     if (cfa->reg >= REGISTERS || !dwcheck_remote_fetch(step->walk, step->words, cfa->reg)) return false;
@@ -83,7 +72,7 @@ static bool find_cfa(struct step *step) {
 }
 
 /* Asks for what a rule reads. */
-static bool provide_for(const struct step *step, const dwcheck_rule *rule) {
+static bool provide_for(const struct row_step *step, const dwcheck_rule *rule) {
     uint64_t value;
     switch (rule->kind) {
     case DWCHECK_RULE_OFFSET: return dwcheck_remote_ask(step->words, step->cfa + (uint64_t)rule->offset, &value);
@@ -97,7 +86,7 @@ static bool provide_for(const struct step *step, const dwcheck_rule *rule) {
 }
 
 /* The rule of a register; NULL if the row has none. */
-static const dwcheck_rule *rule_of(const struct step *step, uint32_t number) {
+static const dwcheck_rule *rule_of(const struct row_step *step, uint32_t number) {
     for (uint32_t i = 0; i < step->row.count && i < DWCHECK_MAX_RULES; i++)
         if (step->rules[i].reg == number) return &step->rules[i];
     return NULL;
@@ -105,7 +94,7 @@ static const dwcheck_rule *rule_of(const struct step *step, uint32_t number) {
 
 /* ---- the caller ---- */
 
-static struct place place_by(const struct step *step, const dwcheck_rule *rule, const struct place before[REGISTERS]) {
+static struct place place_by(const struct row_step *step, const dwcheck_rule *rule, const struct place before[REGISTERS]) {
     uint64_t address;
     switch (rule->kind) {
     case DWCHECK_RULE_SAME_VALUE: return rule->reg < REGISTERS ? before[rule->reg] : (struct place){0, PLACE_NONE};
@@ -118,40 +107,58 @@ static struct place place_by(const struct step *step, const dwcheck_rule *rule, 
     }
 }
 
+/* Where the return address is. On aarch64 it may have no rule, since it is in x30. */
+static struct place place_of_return(const struct row_step *step, const struct place before[REGISTERS]) {
+    const uint32_t number = step->row.return_reg;
+    const dwcheck_rule *returns = rule_of(step, number);
+    if (returns) return place_by(step, returns, before);
+    return number < REGISTERS && number != IP ? before[number] : (struct place){0, PLACE_NONE};
+}
+
 /* Makes the places those of the caller's registers. Returns the registers whose value may be another one now. A register
    without a rule stays where it was, as in libunwind. */
-static uint32_t move_places(const struct step *step) {
+static uint64_t move_places(const struct row_step *step) {
     struct place before[REGISTERS], *places = step->walk->places;
-    uint32_t changed = 0;
+    uint64_t changed = 0;
     memcpy(before, places, sizeof before);
     for (uint32_t i = 0; i < step->row.count && i < DWCHECK_MAX_RULES; i++) {
         const dwcheck_rule *rule = &step->rules[i];
         if (rule->reg >= REGISTERS) continue;
         places[rule->reg] = place_by(step, rule, before);
-        if (rule->kind != DWCHECK_RULE_SAME_VALUE) changed |= 1u << rule->reg;
+        if (rule->kind != DWCHECK_RULE_SAME_VALUE) changed |= UINT64_C(1) << rule->reg;
     }
-    const dwcheck_rule *returns = rule_of(step, step->row.return_reg);
-    places[RIP] = returns ? place_by(step, returns, before) : (struct place){0, PLACE_NONE};
+    places[IP] = place_of_return(step, before);
     return changed;
 }
 
 /* Moves the frame to where the proved step has moved the cursor. */
-static void go_to(const struct step *step, const dwcheck_cursor *cursor) {
+static void go_to(const struct row_step *step, const dwcheck_cursor *cursor) {
     struct frame *frame = &step->walk->frame;
     frame->known &= ~move_places(step);
-    for (int i = 0; i < RIP; i++)
-        if (cursor->known[i]) frame->values[i] = cursor->contents[i], frame->known |= 1u << i;
-    if (!cursor->known[RSP]) frame->values[RSP] = step->cfa;
-    frame->values[RIP] = cursor->address;
-    frame->known |= 1u << RSP | 1u << RIP;
+    for (int i = 0; i < ROW_REGISTERS; i++)
+        if (cursor->known[i]) frame->values[i] = cursor->contents[i], frame->known |= UINT64_C(1) << i;
+    if (!cursor->known[SP]) frame->values[SP] = step->cfa;
+    frame->values[IP] = cursor->address;
+    frame->known |= UINT64_C(1) << SP | UINT64_C(1) << IP;
     frame->is_interrupted = cursor->stage == DWCHECK_CURSOR_EXACT;
+    if (!frame->is_interrupted) frame->known &= ~CHANGED_BY_CALLS;
     frame->key = cursor->address + frame->is_interrupted;
     frame->guess = UNW_GUESS_NONE;
 }
 
+/* Asks for the return address: by its rule; or without one for the register that has it, if no call has changed that. */
+static bool provide_return(const struct row_step *step) {
+    const uint32_t number = step->row.return_reg;
+    const dwcheck_rule *returns = rule_of(step, number);
+    const bool is_exact = step->walk->frame.key != step->walk->frame.values[IP];
+    if (returns) return provide_for(step, returns);
+    const bool is_there = is_exact && number < REGISTERS && CHANGED_BY_CALLS >> number & 1;
+    return !is_there || dwcheck_remote_fetch(step->walk, step->words, (int)number);
+}
+
 /* Takes the proved step, with what was asked for. */
-static int take(const struct step *step) {
-    const uint32_t exact = step->key != step->walk->frame.values[RIP];
+static int take(const struct row_step *step) {
+    const uint32_t exact = step->key != step->walk->frame.values[IP];
     const dwcheck_header none = {.length = 0};
     struct known known;
     dwcheck_cursor cursor;
@@ -168,52 +175,18 @@ static int take(const struct step *step) {
     return 1;
 }
 
-/* ---- what is kept ---- */
-
-/* Notes what a rule says for steps by a kept row. Returns false if such a step can't follow it. */
-static bool note(struct facts *facts, const dwcheck_rule *rule) {
-    if (rule->kind == DWCHECK_RULE_SAME_VALUE) return true;
-    if (rule->reg >= REGISTERS || rule->reg == RSP) return false;
-    if (rule->kind == DWCHECK_RULE_UNDEFINED) facts->undefined |= 1u << rule->reg;
-    if (rule->kind == DWCHECK_RULE_UNDEFINED) return true;
-    if (rule->kind != DWCHECK_RULE_OFFSET || rule->offset != (int16_t)rule->offset) return false;
-    if (rule->reg == RIP) facts->has_return = true, facts->return_offset = (int16_t)rule->offset;
-    else if (facts->count == sizeof facts->saved / sizeof *facts->saved) return false;
-    else facts->saved[facts->count++] = (struct saved){(int16_t)rule->offset, rule->reg};
-    return true;
-}
-
-static bool facts_of(const struct step *step, struct facts *facts) {
-    const dwcheck_rule *cfa = &step->row.cfa;
-    *facts = (struct facts){.cfa_offset = (int32_t)cfa->offset, .cfa_register = (uint8_t)cfa->reg};
-    bool is_noted = !step->is_signal_frame && step->row.return_reg == RIP && cfa->kind == DWCHECK_RULE_VAL_OFFSET
-                    && (cfa->reg == RSP || cfa->reg == RBP) && cfa->offset == (int32_t)cfa->offset;
-    for (uint32_t i = 0; is_noted && i < step->row.count && i < DWCHECK_MAX_RULES; i++) is_noted = note(facts, &step->rules[i]);
-    return is_noted && (facts->has_return || facts->undefined >> RIP & 1);
-}
-
-/* Keeps the row, and takes the step by it, if such a step can follow it. */
-static int step_by_keeping(const struct step *step) {
-    struct facts facts;
-    if (step->walk->space->policy == UNW_CACHE_NONE || !facts_of(step, &facts)) return NO_KEPT_ROW;
-    dwcheck_remote_keep_row(step->walk, step->key, &facts, &step->module);
-    if (step->key != step->walk->frame.key) return NO_KEPT_ROW;
-    return dwcheck_remote_step_by_kept_row(step->walk, step->words, &facts);
-}
-
 int dwcheck_remote_step_by_record(struct remote_cursor *walk, struct words *words, uint64_t key, uint64_t load_address,
                                   const struct record *record) {
-    struct step step = {.walk = walk, .words = words, .key = key, .module = dwcheck_remote_section(record, load_address)};
+    struct row_step step = {.walk = walk, .words = words, .key = key, .module = dwcheck_remote_section(record, load_address)};
     const dwcheck_header none = {.length = 0};
     dwcheck_fault fault;
     const uint32_t status = dwcheck_row_in(&step.module, &none, key - 1, &step.row, step.rules, DWCHECK_MAX_RULES,
                                            &step.is_signal_frame, &fault);
     if (status == DWCHECK_NONE) return -UNW_ENOINFO;
     if (status != DWCHECK_DONE) return -UNW_EBADFRAME;
-    const int result = step_by_keeping(&step);
+    const int result = dwcheck_remote_step_by_keeping(&step);
     if (result != NO_KEPT_ROW) return result;
-    const dwcheck_rule *returns = rule_of(&step, step.row.return_reg);
     words->error = 0;
-    if (!find_cfa(&step) || (returns && !provide_for(&step, returns))) return dwcheck_remote_error(words);
+    if (!find_cfa(&step) || !provide_return(&step)) return dwcheck_remote_error(words);
     return take(&step);
 }

@@ -4,12 +4,12 @@
 
 #include <string.h>
 
-/* On x86-64 some functions where a stack begins have no FDE, so libunwind gives them one address. */
 int dwcheck_remote_get_proc_info(unw_cursor_t *cursor, unw_proc_info_t *info) {
     const struct remote_cursor *own = dwcheck_remote_cursor(cursor);
     if (!own || !info) return -UNW_EINVAL;
-    const uint64_t address = own->frame.values[RIP];
-    if (dwcheck_remote_find(own->space, own->frame.key - 1, info, 0, own->context) >= 0) return 0;
+    const uint64_t address = own->frame.values[IP];
+    const int result = dwcheck_remote_find(own->space, own->frame.key - 1, info, 0, own->context);
+    if (result >= 0 || !IS_FUNCTION_WITHOUT_ROW) return result < 0 ? result : 0;
     memset(info, 0, sizeof *info);
     info->start_ip = address, info->end_ip = address + 1;
     return 0;
@@ -29,7 +29,7 @@ int dwcheck_remote_name_of(unw_addr_space_t space, uint64_t address, char *name,
 int dwcheck_remote_get_proc_name(unw_cursor_t *cursor, char *name, size_t size, unw_word_t *offset) {
     const struct remote_cursor *own = dwcheck_remote_cursor(cursor);
     if (!own || !name || size == 0) return -UNW_EINVAL;
-    const uint64_t before = own->frame.values[RIP] - (own->frame.key - 1);
+    const uint64_t before = own->frame.values[IP] - (own->frame.key - 1);
     const int result = dwcheck_remote_name_of(own->space, own->frame.key - 1, name, size, offset, own->context);
     if (result == 0 && offset) *offset += before;
     return result;

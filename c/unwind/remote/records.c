@@ -81,7 +81,7 @@ int dwcheck_remote_with_found_record(struct words *words, uint64_t fde, use_reco
    don't need. */
 dwcheck_module dwcheck_remote_section(const struct record *record, uint64_t load_address) {
     return (dwcheck_module){.frame = record->bytes, .frame_length = (size_t)record->cie_length + record->fde_length,
-                            .load_address = load_address, .kind = DWCHECK_EH_FRAME, .order = DWCHECK_LITTLE, .address_size = 8,
+                            .load_address = load_address, .kind = DWCHECK_DL_KIND, .order = DWCHECK_LITTLE, .address_size = 8,
                             .section_address = record->fde - record->cie_length};
 }
 

@@ -20,8 +20,8 @@ int dwcheck_remote_init(unw_cursor_t *cursor, unw_addr_space_t space, void *cont
     if (!cursor || !space) return -UNW_EINVAL;
     for (int i = 0; i < REGISTERS; i++) walk.places[i] = (struct place){(uint64_t)i, PLACE_REGISTER};
     dwcheck_remote_begin(&words, space, context);
-    if (!dwcheck_remote_fetch(&walk, &words, RIP) || !dwcheck_remote_fetch(&walk, &words, RSP)) return dwcheck_remote_error(&words);
-    walk.frame.key = walk.frame.values[RIP] + 1;
+    if (!dwcheck_remote_fetch(&walk, &words, IP) || !dwcheck_remote_fetch(&walk, &words, SP)) return dwcheck_remote_error(&words);
+    walk.frame.key = walk.frame.values[IP] + 1;
     *(struct remote_cursor *)cursor = walk;
     return 0;
 }
@@ -33,16 +33,16 @@ static int fetch(struct remote_cursor *own, int number, uint64_t *value) {
     dwcheck_remote_begin(&words, walk.space, walk.context);
     if (!dwcheck_remote_fetch(&walk, &words, number)) return dwcheck_remote_error(&words);
     *value = walk.frame.values[number];
-    if (own->changes == walk.changes) own->frame.values[number] = *value, own->frame.known |= 1u << number;
+    if (own->changes == walk.changes) own->frame.values[number] = *value, own->frame.known |= UINT64_C(1) << number;
     return 0;
 }
 
 int dwcheck_remote_get_reg(unw_cursor_t *cursor, int number, unw_word_t *value) {
     struct remote_cursor *own = dwcheck_remote_cursor(cursor);
     if (!own || !value) return -UNW_EINVAL;
-    if (number == UNW_X86_64_CFA) number = RSP;
+    number = register_of(number);
     if (number < 0 || number >= REGISTERS) return -UNW_EBADREG;
-    if (number != RIP && !(own->frame.known >> number & 1)) return fetch(own, number, value);
+    if (number != IP && !(own->frame.known >> number & 1)) return fetch(own, number, value);
     *value = own->frame.values[number];
     return 0;
 }
@@ -62,23 +62,23 @@ static int write_place(const struct remote_cursor *walk, int number, unw_word_t 
 int dwcheck_remote_set_reg(unw_cursor_t *cursor, int number, unw_word_t value) {
     struct remote_cursor *own = dwcheck_remote_cursor(cursor);
     if (!own) return -UNW_EINVAL;
-    if (number == UNW_X86_64_CFA || number == RSP) return -UNW_EREADONLYREG;
-    if (number < 0 || number >= REGISTERS) return -UNW_EBADREG;
+    const int content = register_of(number);
+    if (content == SP) return -UNW_EREADONLYREG;
+    if (content < 0 || content >= REGISTERS) return -UNW_EBADREG;
     const struct remote_cursor walk = *own;
-    const bool is_argument = number == UNW_X86_64_RAX || number == UNW_X86_64_RDX;
-    const int result = is_argument ? 0 : write_place(&walk, number, value);
+    const int result = is_argument(number) ? 0 : write_place(&walk, content, value);
     if (result < 0 || own->changes != walk.changes) return result < 0 ? result : 0;
-    own->frame.values[number] = value;
-    own->frame.known |= 1u << number;
-    if (number == RIP) own->frame.key = value + (own->frame.key - walk.frame.values[RIP]);
+    own->frame.values[content] = value;
+    own->frame.known |= UINT64_C(1) << content;
+    if (content == IP) own->frame.key = value + (own->frame.key - walk.frame.values[IP]);
     return 0;
 }
 
 int dwcheck_remote_get_save_loc(unw_cursor_t *cursor, int number, unw_save_loc_t *location) {
     const struct remote_cursor *own = dwcheck_remote_cursor(cursor);
     if (!own || !location) return -UNW_EINVAL;
-    const bool is_kept = number >= 0 && number < REGISTERS && KEPT_REGISTERS >> number & 1;
-    dwcheck_unwind_put_place(is_kept ? own->places[number] : (struct place){0, PLACE_NONE}, location);
+    const bool is_placed = number >= 0 && number < REGISTERS && PLACED_REGISTERS >> number & 1;
+    dwcheck_unwind_put_place(is_placed ? own->places[number] : (struct place){0, PLACE_NONE}, location);
     return 0;
 }
 

@@ -92,17 +92,34 @@ HIDDEN uint32_t dwcheck_remote_walk(const struct remote_cursor *walk, dwcheck_pl
 HIDDEN struct kept_rows *dwcheck_remote_new(void);
 HIDDEN void dwcheck_remote_free(struct kept_rows *kept);
 
-/* ---- by_kept_row.c ---- */
-
-enum { NO_KEPT_ROW = 2 }; /* besides what unw_step returns: the row isn't kept any more */
-/* Moves to the caller by the kept row of the address at which the walk is. */
-HIDDEN int dwcheck_remote_step_by_kept_row(struct remote_cursor *walk, struct words *words, const struct facts *facts);
-
 /* ---- by_row.c: steps by any row ---- */
+
+/* A step by the row of an address. */
+struct row_step {
+    struct remote_cursor *walk;
+    struct words *words;
+    uint64_t key, cfa; /* the address to look up, plus 1 */
+    dwcheck_module module;
+    dwcheck_row row;
+    dwcheck_rule rules[DWCHECK_MAX_RULES];
+    uint32_t is_signal_frame;
+};
 
 /* Moves to the caller, by the FDE of which `key` - 1 is an address. */
 HIDDEN int dwcheck_remote_step_by_record(struct remote_cursor *walk, struct words *words, uint64_t key, uint64_t load_address,
                                          const struct record *record);
+
+/* ---- of each processor, remote.c ---- */
+
+enum { NO_KEPT_ROW = 2 }; /* besides what unw_step returns: the row isn't kept, or not any more */
+/* Moves to the caller by the kept row of the address at which the walk is. */
+HIDDEN int dwcheck_remote_step_by_kept_row(struct remote_cursor *walk, struct words *words, const struct facts *facts);
+/* Keeps a row, and moves to the caller by it, if the walk can keep such rows. */
+HIDDEN int dwcheck_remote_step_by_keeping(const struct row_step *step);
+/* Leaves a signal handler, where no row covers the code to which it returns; -UNW_ENOINFO if the frame's code is another. */
+HIDDEN int dwcheck_remote_leave_handler(struct remote_cursor *walk, struct words *words);
+/* What unw_is_signal_frame returns. */
+HIDDEN int dwcheck_remote_is_signal_frame(const struct remote_cursor *walk);
 
 /* ---- registered.c: what the process has registered; -UNW_ENOINFO for any other address ---- */
 

@@ -59,10 +59,15 @@ static int step(struct remote_cursor *walk, struct words *words) {
     return result == NO_KEPT_ROW ? dwcheck_remote_step_by_search(walk, words, walk->frame.key) : result;
 }
 
-/* If rbp can't be read, it isn't known whether it leads to a frame. */
+/* If the frame pointer can't be read, it isn't known whether it leads to a frame. Nor whether a register has the return address
+   of a frame that has made no call. */
 static int guess(struct remote_cursor *walk, struct words *words) {
     const struct word_reader memory = {dwcheck_remote_read, words};
-    if (!dwcheck_remote_fetch(walk, words, RBP) && walk->places[RBP].kind != PLACE_NONE) return dwcheck_remote_error(words);
+    const bool is_exact = walk->frame.key != walk->frame.values[IP];
+    const uint64_t needed = UINT64_C(1) << FP | (is_exact ? CHANGED_BY_CALLS : 0);
+    for (int i = 0; i < REGISTERS; i++)
+        if (needed >> i & 1 && !dwcheck_remote_fetch(walk, words, i) && walk->places[i].kind != PLACE_NONE)
+            return dwcheck_remote_error(words);
     return dwcheck_unwind_guess(&walk->frame, walk->places, &memory);
 }
 
@@ -72,12 +77,13 @@ int dwcheck_remote_step(unw_cursor_t *cursor) {
     if (own->frame.is_last) return 0;
     struct remote_cursor walk = *own;
     struct words words;
-    const uint64_t address = walk.frame.values[RIP], stack_pointer = walk.frame.values[RSP];
+    const uint64_t address = walk.frame.values[IP], stack_pointer = walk.frame.values[SP];
     dwcheck_remote_begin(&words, walk.space, walk.context);
     int result = walk.frame.key == 0 ? -UNW_ENOINFO : step(&walk, &words);
+    if (result == -UNW_ENOINFO) result = dwcheck_remote_leave_handler(&walk, &words);
     if (result == -UNW_ENOINFO) result = guess(&walk, &words);
     if (result > 0 && walk.frame.key == 0) result = dwcheck_unwind_end(&walk.frame); /* where some threads begin */
-    if (result > 0 && walk.frame.values[RIP] == address && walk.frame.values[RSP] == stack_pointer) return -UNW_EBADFRAME;
+    if (result > 0 && walk.frame.values[IP] == address && walk.frame.values[SP] == stack_pointer) return -UNW_EBADFRAME;
     if (result < 0) return result;
     walk.changes++;
     *own = walk;

@@ -75,6 +75,6 @@ bool dwcheck_remote_fetch(struct remote_cursor *walk, struct words *words, int n
     if (!(place->kind == PLACE_MEMORY ? dwcheck_remote_ask(words, place->at, &value) : ask_register(words, (int)place->at, &value)))
         return false;
     walk->frame.values[number] = value;
-    walk->frame.known |= 1u << number;
+    walk->frame.known |= UINT64_C(1) << number;
     return true;
 }
