@@ -50,6 +50,20 @@ static inline uint64_t *dwcheck_dl_frame_pointer(dwcheck_dl_place *place) {
 #endif
 }
 
+/* The caller's stack pointer, where a frame pointer leads to the caller's frame pointer, `saved`, and the return address. JITs
+   and clang have the two words at the top of a frame. gcc for aarch64 has them at the bottom, at the stack pointer: then nothing
+   says how long the frame is, and the caller's frame pointer is taken, which is its stack pointer if it is gcc's code, too. */
+static inline uint64_t dwcheck_dl_stack_of_caller(uint64_t stack_pointer, uint64_t frame_pointer, uint64_t saved) {
+    enum { WORDS = 16, MOST = 1 << 20 };
+#if defined(__aarch64__)
+    const bool is_at_bottom = frame_pointer == stack_pointer && saved % WORDS == 0;
+    if (is_at_bottom && saved > frame_pointer && saved - frame_pointer <= MOST) return saved;
+#else
+    (void)stack_pointer, (void)saved;
+#endif
+    return frame_pointer + WORDS;
+}
+
 /* Makes a place that of a caller, which continues at this address. */
 static inline void dwcheck_dl_continue_at(dwcheck_dl_place *place, uint64_t return_address) {
     place->address = place->key = return_address;

@@ -179,7 +179,7 @@ static bool follow_frame_pointer(struct dwcheck_dl_walk *walk) {
     if (!dwcheck_dl_is_readable(caller)) return false;
     dwcheck_dl_continue_at(place, caller);
     *dwcheck_dl_frame_pointer(place) = word_at(at);
-    place->stack_pointer = at + 2 * WORD;
+    place->stack_pointer = dwcheck_dl_stack_of_caller(place->stack_pointer, at, word_at(at));
     walk->mark = DWCHECK_DL_BY_FRAME_POINTER;
     return true;
 }

@@ -120,6 +120,8 @@ static void walk_unregistered(call_back *f) {
     IS(marks[2], DWCHECK_DL_BY_FRAME_POINTER);
 }
 
+DEFINE_WITHOUT_ROWS;
+
 static void test_registered(void) {
     enum { PAGE = 4096 };
     uint8_t *page = mmap(NULL, PAGE, PROT_READ | PROT_WRITE | PROT_EXEC, MAP_PRIVATE | MAP_ANONYMOUS, -1, 0);
@@ -141,6 +143,7 @@ static void test_registered(void) {
     IS(dwcheck_dl_unregister(first), DWCHECK_NONE);
     IS(dwcheck_dl_unregister(first + 64), DWCHECK_DONE);
     walk_unregistered(f);
+    walk_unregistered(without_rows);
     free(section);
     free(other);
     munmap(page, PAGE);

@@ -19,6 +19,12 @@ void pops(void);
 /* Calls `f` on another stack, and finds the way back by the frame pointer. */
 void on_stack(void (*f)(void), void *top);
 
+/* Calls `f`, has no rows, and keeps a frame pointer as gcc does: on aarch64, to the bottom of its frame. */
+void without_rows(void (*f)(void));
+#define DEFINE_WITHOUT_ROWS                                                                                             \
+    __asm__(".pushsection .text\n.type without_rows, %function\n.globl without_rows\nwithout_rows:\n" CODE_WITHOUT_ROWS \
+            "\n.size without_rows, . - without_rows\n.popsection")
+
 #if defined(__x86_64__)
 
 #define PC(CONTEXT) (((ucontext_t *)(CONTEXT))->uc_mcontext.gregs[REG_RIP])
@@ -29,6 +35,8 @@ FUNCTION("pops", "push %rbp\n.cfi_def_cfa_offset 16\n.cfi_offset %rbp, -16\nmov 
                  "pop %rbp\n.cfi_def_cfa %rsp, 8\nud2\nret");
 FUNCTION("on_stack", "push %rbp\n.cfi_def_cfa_offset 16\n.cfi_offset %rbp, -16\nmov %rsp, %rbp\n.cfi_def_cfa_register %rbp\n"
                      "mov %rsi, %rsp\ncall *%rdi\nmov %rbp, %rsp\npop %rbp\n.cfi_def_cfa %rsp, 8\nret");
+
+#define CODE_WITHOUT_ROWS "push %rbp\nmov %rsp, %rbp\nsub $48, %rsp\ncall *%rdi\nleave\nret"
 
 /* Returns to an address with another word where a return address would be, if it had been called. */
 #define RETURN_TO(ADDRESS, WORD) __asm__ volatile("push %1\n\tpush %0\n\tret" : : "r"(ADDRESS), "r"(WORD) : "memory")
@@ -52,6 +60,8 @@ FUNCTION("pops", "hint #34\nstp x29, x30, [sp, #-16]!\n.cfi_def_cfa_offset 16\n.
 FUNCTION("on_stack", "hint #34\nstp x29, x30, [sp, #-16]!\n.cfi_def_cfa_offset 16\n.cfi_offset 29, -16\n.cfi_offset 30, -8\nmov x29, sp\n"
                      ".cfi_def_cfa_register 29\nmov sp, x1\nblr x0\nmov sp, x29\nldp x29, x30, [sp], #16\n"
                      ".cfi_restore 29\n.cfi_restore 30\n.cfi_def_cfa 31, 0\nret");
+
+#define CODE_WITHOUT_ROWS "hint #34\nstp x29, x30, [sp, #-64]!\nmov x29, sp\nblr x0\nldp x29, x30, [sp], #64\nret"
 
 #define RETURN_TO(ADDRESS, WORD)                                                             \
     do {                                                                                     \

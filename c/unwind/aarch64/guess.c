@@ -45,8 +45,6 @@ static int after_call(struct frame *frame, struct place *places, const struct wo
     return go_to(frame, address, frame->values[SP] + pushed, guess);
 }
 
-/* Where the caller's stack pointer is can't be known. gcc keeps the two words at the bottom of a frame, so that x29 is
-   the stack pointer, and clang counts from x29 alone. So the caller's x29 is taken for both. */
 static int by_frame_pointer(struct frame *frame, struct place *places, const struct word_reader *memory) {
     enum { FARTHEST = 0x4000 };
     const uint64_t pointer = frame->values[FP];
@@ -60,11 +58,12 @@ static int by_frame_pointer(struct frame *frame, struct place *places, const str
         places[FP] = (struct place){pointer, PLACE_MEMORY};
         places[LR] = places[IP] = (struct place){pointer + sizeof saved, PLACE_MEMORY};
     }
-    const uint64_t address = dwcheck_dl_unsigned(link), after = pointer + sizeof saved + sizeof link;
+    const uint64_t address = dwcheck_dl_unsigned(link);
+    const uint64_t stack_pointer = dwcheck_dl_stack_of_caller(frame->values[SP], pointer, saved);
     frame->values[FP] = saved;
     frame->known = UINT64_C(1) << FP | UINT64_C(1) << SP | UINT64_C(1) << IP;
     if (address == 0) return dwcheck_unwind_end(frame);
-    return go_to(frame, address, saved >= after ? saved : after, UNW_GUESS_FRAME_POINTER);
+    return go_to(frame, address, stack_pointer, UNW_GUESS_FRAME_POINTER);
 }
 
 int dwcheck_unwind_guess(struct frame *frame, struct place *places, const struct word_reader *memory) {

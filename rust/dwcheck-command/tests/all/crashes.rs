@@ -453,6 +453,42 @@ fn signed_return_addresses() {
     }
 }
 
+const CALLS: &str = "
+#include <stdlib.h>
+int without_rows(int n);
+__attribute__((noinline)) int last(int n) { if (n > 0) abort(); return n + 1; }
+__attribute__((noinline)) int first(int n) { volatile int room[40]; room[n] = n; return without_rows(room[n]) + room[n]; }
+int main(int argc, char **argv) { volatile int room[9]; room[argc] = argc; return first(room[argc]) + room[argc]; }
+";
+const WITHOUT_ROWS: &str = "
+int last(int n);
+__attribute__((noinline)) int inner(int n) { volatile int room[70]; room[n] = n; return last(room[n]) + room[n]; }
+int without_rows(int n) { volatile int room[20]; room[n] = n; return inner(room[n]) + room[n]; }
+";
+
+/// Code of gcc for aarch64 without rows has frame pointers that lead to the bottom of a frame: what is above it isn't known,
+/// and by rows its caller's CFA counts from the stack pointer.
+#[test]
+fn frames_of_gcc_without_rows_are_passed() {
+    let folder = Folder::new("crash-bottom");
+    if !["aarch64-linux-gnu-gcc", "qemu-aarch64"].iter().all(|tool| has(tool)) {
+        return;
+    }
+    folder.write("a.c", CALLS);
+    folder.write("b.c", WITHOUT_ROWS);
+    folder.run("aarch64-linux-gnu-gcc -O1 -fno-asynchronous-unwind-tables -fno-unwind-tables -c b.c");
+    folder.run("aarch64-linux-gnu-gcc -O1 -static a.c b.o -o crash");
+    folder.run("ulimit -c unlimited; qemu-aarch64 ./crash 2> /dev/null || mv qemu_crash_*.core core");
+    let ran = dwcheck_elf(&folder, "stack --no-inline --no-source crash core");
+    let shown: Vec<&str> = frames(&ran.out).into_iter().skip_while(|line| !line.contains(" last+")).collect();
+    for (line, name) in shown.iter().zip(["last", "inner", "without_rows", "first", "main"]) {
+        assert!(line.contains(&format!(" {}+", name)), "{}", ran.out);
+    }
+    let guesses: Vec<usize> =
+        (0..shown.len()).filter(|number| shown[*number].ends_with(" guess: frame pointer")).collect();
+    assert!(guesses == [2, 3] && ran.out.contains(" _start+"), "{}", ran.out);
+}
+
 /// In glibc 2.36 for i386, the FDE of memcpy has a remember_state that is left over.
 #[test]
 fn a_fault_in_memcpy_of_i386() {

@@ -34,6 +34,10 @@ const SCANNED: u64 = 160;
 /// How far before an address of code that is in no file the function may begin that has it.
 const LONGEST_FUNCTION: u64 = 1 << 20;
 
+/// How far above a frame pointer of aarch64 the caller's may be, and of which number stack pointers are multiples.
+const LONGEST_FRAME: u64 = 1 << 20;
+const STACK_ALIGNMENT: u64 = 16;
+
 /// How a frame was found.
 #[derive(Clone, Copy, Debug, PartialEq, Eq)]
 pub enum FoundBy {
@@ -319,9 +323,19 @@ impl<V: View> Guesser<'_, V> {
         let saved = self.word(pointer).filter(|_| is_in_stack && pointer % size == 0)?;
         let held = self.word(pointer.checked_add(size)?)?;
         let address = self.unsigned(held);
-        let cfa = pointer.checked_add(2 * size)?;
+        let cfa = self.stack_of_caller(pointer, saved).or_else(|| pointer.checked_add(2 * size))?;
         let known = [(abi.frame_pointer, saved), (abi.stack_pointer, cfa), (abi.program_counter, address)];
         Some(Guess { found_by: FoundBy::FramePointer, address, registers: known.into(), cfa })
+    }
+
+    /// The caller's stack pointer, if the two words to which a frame pointer leads aren't at the top of the frame, as JITs
+    /// and clang have them. gcc for aarch64 has them at the bottom, at the stack pointer: then nothing says how long the
+    /// frame is, and the caller's frame pointer is taken, which is its stack pointer if it is gcc's code, too.
+    fn stack_of_caller(&self, pointer: u64, saved: u64) -> Option<u64> {
+        let abi = self.view.abi();
+        let is_at_bottom = abi.link_register.is_some() && self.registers.get(abi.stack_pointer) == Some(pointer);
+        let is_stack = saved % STACK_ALIGNMENT == 0 && saved > pointer && saved - pointer <= LONGEST_FRAME;
+        Some(saved).filter(|_| is_at_bottom && is_stack)
     }
 
     /// The caller of a frame, if nothing else finds it: the first word of the stack, of [`SCANNED`], that is an address
