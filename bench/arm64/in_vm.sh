@@ -100,5 +100,7 @@ for kind in plain signed; do
 done
 test_of "signed: stacks, also where a return address is in its register, are glibc's" "$tests/dl_signed-signed"
 test_of "libunwind's calls beside libunwind" "$tests/unwind" /usr/lib/aarch64-linux-gnu/libunwind.so.8
+test_of "libunwind's calls for other processes beside libunwind" "$tests/unwind_remote" /usr/lib/aarch64-linux-gnu/libunwind-aarch64.so.8
+test_of "libunwind's calls with accessors that fail, lie, step and leave" "$tests/unwind_remote_input"
 test_of "dwcheck-elf stack of a process that runs beside gdb" live "$elf" stack --no-inline --pid
 test_of "dwcheck-elf checks the C library" "$elf" check /lib/aarch64-linux-gnu/libc.so.6

@@ -46,9 +46,12 @@ compile() {
         aarch64-linux-gnu-gcc -g -O0 -pthread $signing "$top/examples/rust/crash.c" -o "$folder/test/dies-$kind"
         aarch64-linux-gnu-gcc -g -O1 $signing -fno-optimize-sibling-calls "$top/bench/arm64/handler.c" -o "$folder/test/handler-$kind"
     done
-    aarch64-linux-gnu-gcc -std=gnu11 -D_GNU_SOURCE -Wall -Wextra -I"$top/c/include" -O2 -g "$top/c/tests/unwind.c" "$built/unwind/libunwind.so.8" \
-        -Wl,-rpath,/test -Wl,-z,lazy -o "$folder/test/unwind" -pthread -ldl
-    cp "$built/unwind/libunwind.so.8" "$folder/test/"
+    for program in unwind unwind_remote unwind_remote_input; do
+        aarch64-linux-gnu-gcc -std=gnu11 -D_GNU_SOURCE -Wall -Wextra -I"$top/c/include" -O2 -g "$top/c/tests/$program.c" \
+            -Wl,--as-needed "$built/unwind/libunwind-ptrace.so.0" "$built/unwind/libunwind.so.8" -Wl,-rpath-link,"$built/unwind" \
+            -Wl,-rpath,/test -Wl,-z,lazy -o "$folder/test/$program" -pthread -ldl
+    done
+    cp "$built"/unwind/libunwind*.so.? "$folder/test/"
     cp "$top/bench/arm64/in_vm.sh" "$top/bench/arm64/init" "$top/examples/c/compare.py" "$built/dwcheck" "$built/dwcheck-elf" "$folder/test/"
 }
 

@@ -9,7 +9,7 @@
 #include <sys/mman.h>
 #include <unistd.h>
 
-enum { DEPTH = 10, FRAMES = 64, PAGE = 4096, ALTERNATE = 2 * PAGE };
+enum { DEPTH = 10, FRAMES = 64, PART = 4096, ALTERNATE = 2 * PART };
 
 /* ---- writing text: a line is put together here, and written by one call */
 
@@ -68,13 +68,14 @@ static void on_crash(int signal, siginfo_t *why, void *context) {
 
 /* Gives the calling thread an alternate stack for the handler, since its own stack may have no room
    left. Each thread needs one, and frees it before it ends: sigaltstack with SS_DISABLE, then munmap. If
-   the stack overflows, it meets a page that can't be used. 8 KB are enough if the kernel needs at most one
-   page of them for what it saves. */
+   the stack overflows, it meets a page that can't be used, however large pages are. 8 KB are enough if the kernel
+   needs at most half of them for what it saves. */
 static int prepare_thread(void) {
-    size_t saved = (size_t)sysconf(_SC_MINSIGSTKSZ), size = ALTERNATE + (saved > PAGE ? saved / PAGE * PAGE : 0);
-    char *bytes = mmap(NULL, PAGE + size, PROT_READ | PROT_WRITE, MAP_PRIVATE | MAP_ANONYMOUS, -1, 0);
-    if (bytes == MAP_FAILED || mprotect(bytes, PAGE, PROT_NONE) != 0) return 0;
-    return sigaltstack(&(stack_t){.ss_sp = bytes + PAGE, .ss_size = size}, NULL) == 0;
+    const size_t page = (size_t)sysconf(_SC_PAGESIZE), saved = (size_t)sysconf(_SC_MINSIGSTKSZ);
+    const size_t size = ALTERNATE + (saved > PART ? saved / PART * PART : 0);
+    char *bytes = mmap(NULL, page + size, PROT_READ | PROT_WRITE, MAP_PRIVATE | MAP_ANONYMOUS, -1, 0);
+    if (bytes == MAP_FAILED || mprotect(bytes, page, PROT_NONE) != 0) return 0;
+    return sigaltstack(&(stack_t){.ss_sp = bytes + page, .ss_size = size}, NULL) == 0;
 }
 
 /* ---- the code that crashes */
