@@ -17,6 +17,10 @@ pub const IN_EXPRESSION: u32 = 2;
 /// `CFault::within`: the fault's offset refers to the ABI's list of callee-saved registers.
 pub const IN_ABI: u32 = 3;
 
+/// `CFault::within`: the fault's offset refers to the `.eh_frame` section of a module that has
+/// `.debug_frame` too.
+pub const IN_EH_FRAME: u32 = 4;
+
 /// Why an input is refused: the number of the fault, its offset, and which input the offset refers
 /// to (`within`).
 #[repr(C)]
