@@ -3,7 +3,8 @@ use Rattle.std.proofs.Common.{◌≡◌, ℕ, List, Option, None}
 use Rattle.std.specs.Prelude.{IfErr, Result, Ok, Err}
 use Rattle.dw_bytes.specs.declared.target.Target.{Target}
 use Rattle.dw_rows.specs.Section.{FrameSection, frame_of, section_fault}
-use Rattle.dw_process.specs.BothSections.{AreBothRefused, AreRefusedWith, IsEhFrameOf}
+use Rattle.dw_process.specs.BothSections.{AreBothRefused, AreRefusedWith}
+use Rattle.dw_process.specs.EhModules.{IsEhFrameOf}
 use Rattle.dw_process.specs.declared.address_range.AddressRange.{AddressRange}
 use Rattle.dw_process.specs.declared.both_sections.BothSections.{BothSections}
 use Rattle.dw_process.specs.declared.both_sections.TableRooms.{TableRooms}

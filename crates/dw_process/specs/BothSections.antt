@@ -1,14 +1,11 @@
 -- A module with both sections, `.debug_frame` and `.eh_frame`: what adding it makes of a process, and
 -- why it isn't added. The row of an address is that of `.debug_frame`, or if that covers the address
 -- by no FDE, that of `.eh_frame` (`linked_row`).
-use Rattle.std.specs.Prelude.{◌≡◌, ◌⊎◌, ◌<◌, ℕ, Bool, true, false, List, Option, Some, None}
-use Rattle.dw_bytes.specs.declared.fault.Fault.{Fault}
+use Rattle.std.specs.Prelude.{◌≡◌, ◌⊎◌, ◌<◌, ℕ, List, Option, Some, None}
 use Rattle.dw_bytes.specs.declared.target.Target.{Target}
-use Rattle.dw_eh_rows.specs.declared.signals.SignalRange.{SignalRange}
 use Rattle.dw_rows.specs.Section.{FrameSection, frame_of, section_fault}
-use Rattle.dw_signed_rows.specs.SignedRanges.{has_signed}
 use Rattle.dw_tables.specs.UnwindTables.{IsTableOf, RowTable, table_bytes}
-use Rattle.dw_process.specs.EhModules.{IsFrameOf, IsKeptFrameOf, first_fault_of, is_signed_by, kept_signals_of, signals_of, whole_fault_of}
+use Rattle.dw_process.specs.EhModules.{AreMarksOf, IsEhFrameOf, eh_fault_of}
 use Rattle.dw_process.specs.Marks.{Marks}
 use Rattle.dw_process.specs.ModuleMaps.{IsFree, IsPlaceFor, IsTaken}
 use Rattle.dw_process.specs.Processes.{IsInserted, IsStored, ProcessState}
@@ -16,7 +13,6 @@ use Rattle.dw_process.specs.Ranges.{HaveNoRange, IsRangeForBoth}
 use Rattle.dw_process.specs.declared.address_range.AddressRange.{AddressRange}
 use Rattle.dw_process.specs.declared.both_sections.BothSections.{BothSections}
 use Rattle.dw_process.specs.declared.both_sections.TableRooms.{TableRooms}
-use Rattle.dw_process.specs.declared.eh_frame.EhSection.{EhSection}
 use Rattle.dw_process.specs.declared.loaded_module.LoadedModule.{LoadedModule}
 use Rattle.dw_process.specs.declared.ready_module.ReadyModule.{ReadyModule}
 use Rattle.dw_process.specs.declared.refusal.BothRefusal.{BothRefusal}
@@ -68,28 +64,6 @@ AreRefusedWith debug_frame eh_frame load_address given rooms modules Room =
 AreRefusedWith debug_frame eh_frame load_address given rooms modules Range = HaveNoRange debug_frame eh_frame load_address given
 AreRefusedWith debug_frame eh_frame load_address given rooms modules (Overlaps id) =
     (range : AddressRange) × IsRangeForBoth debug_frame eh_frame load_address given range × IsTaken range modules id
-
--- ---- `.eh_frame`, with all its records (`false`) or without bad ones (`true`)
-
--- the fault for which the section is refused
-abbrev pub eh_fault_of : Bool → EhSection → Target → Option Fault
-eh_fault_of false s target = first_fault_of s target
-eh_fault_of true s target = whole_fault_of s target
-
--- `frame` is the section, or what is kept of it
-abbrev pub IsEhFrameOf : Bool → EhSection → Target → FrameSection → Type 0
-IsEhFrameOf false s target frame = IsFrameOf s target frame
-IsEhFrameOf true s target frame = IsKeptFrameOf s target frame
-
--- the addresses of its signal frames
-abbrev pub eh_signals_of : Bool → EhSection → Target → List SignalRange
-eh_signals_of false s target = signals_of s target
-eh_signals_of true s target = kept_signals_of s target
-
--- these are its signal frames, and the addresses at which it says that return addresses are signed
-pub record AreMarksOf (leaves_out : Bool) (s : EhSection) (target : Target) (frame : FrameSection) (marks : Marks) : Type 0 where
-  pub signals : marks.signals ≡ eh_signals_of leaves_out s target
-  pub signed : (a : ℕ) → has_signed marks.signed a ≡ is_signed_by s frame a
 
 -- ---- both sections
 

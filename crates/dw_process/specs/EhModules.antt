@@ -1,6 +1,6 @@
 -- A module whose rows come from an `.eh_frame` section: what adding it makes of a process, and why
 -- it isn't added.
-use Rattle.std.specs.Prelude.{◌≡◌, ◌⊎◌, ◌&&◌, ℕ, Bool, List, Option, Some, None}
+use Rattle.std.specs.Prelude.{◌≡◌, ◌⊎◌, ◌&&◌, ℕ, Bool, true, false, List, Option, Some, None}
 use Rattle.dw_bytes.specs.Answers.{memory, values_in}
 use Rattle.dw_bytes.specs.declared.fault.Fault.{Fault}
 use Rattle.dw_bytes.specs.declared.target.Target.{Target}
@@ -116,3 +116,25 @@ IsRefusedLeavingOut s target load_address given room modules Room = AreKeptRowsR
 IsRefusedLeavingOut s target load_address given room modules Range = AreKeptRowsRefused s target load_address given room modules Range
 IsRefusedLeavingOut s target load_address given room modules (Overlaps id) =
     AreKeptRowsRefused s target load_address given room modules (Overlaps id)
+
+-- ---- `.eh_frame`, with all its records (`false`) or without bad ones (`true`)
+
+-- the fault for which the section is refused
+abbrev pub eh_fault_of : Bool → EhSection → Target → Option Fault
+eh_fault_of false s target = first_fault_of s target
+eh_fault_of true s target = whole_fault_of s target
+
+-- `frame` is the section, or what is kept of it
+abbrev pub IsEhFrameOf : Bool → EhSection → Target → FrameSection → Type 0
+IsEhFrameOf false s target frame = IsFrameOf s target frame
+IsEhFrameOf true s target frame = IsKeptFrameOf s target frame
+
+-- the addresses of its signal frames
+abbrev pub eh_signals_of : Bool → EhSection → Target → List SignalRange
+eh_signals_of false s target = signals_of s target
+eh_signals_of true s target = kept_signals_of s target
+
+-- these are its signal frames, and the addresses at which it says that return addresses are signed
+pub record AreMarksOf (leaves_out : Bool) (s : EhSection) (target : Target) (frame : FrameSection) (marks : Marks) : Type 0 where
+  pub signals : marks.signals ≡ eh_signals_of leaves_out s target
+  pub signed : (a : ℕ) → has_signed marks.signed a ≡ is_signed_by s frame a

@@ -1,19 +1,15 @@
 //! Modules with both sections, `.debug_frame` and `.eh_frame`. Compilers and assemblers write only
 //! one of them for some functions, so a program may need both.
 
-ghost use Rattle.std.specs.Prelude.{◌≡◌, ◌⊎◌, ◌<◌, ◌^◌, IfErr, IfOk, Some, length};
-ghost use Rattle.dw_bytes.specs.Answers.{memory};
-ghost use Rattle.dw_process.specs.BothSections.{AreBothAdded, AreBothRefused, AreMarksOf, IsEhFrameOf, eh_fault_of};
-ghost use Rattle.dw_process.specs.Marks.{marks_of};
+ghost use Rattle.std.specs.Prelude.{◌≡◌, ◌<◌, ◌^◌, IfErr, IfOk, length};
+ghost use Rattle.dw_process.specs.BothSections.{AreBothAdded, AreBothRefused};
 
 use crate::address_range::AddressRange;
-use crate::eh_frame::{EhSection, marks_with};
+use crate::eh_frame::{EhSection, MarkedFrame, marked_frame};
 use crate::process::Process;
 use crate::refusal::BothRefusal;
-use crate::shared_marks::FrameMarks;
-use dw_bytes::{Fault, FaultKind, OUT_OF_MEMORY, Target};
-use dw_eh_rows::{KeptRecords, check_eh_frame, check_eh_frame_leaving_out, signal_frames};
-use dw_rows::{CheckedFrame, check_frame};
+use dw_bytes::FaultKind;
+use dw_rows::check_frame;
 use std::alloc::Global;
 
 /// The two frame sections of a module.
@@ -36,46 +32,6 @@ pub struct TableRooms {
     pub debug_frame: usize,
     /// For the table of `.eh_frame`.
     pub eh_frame: usize,
-}
-
-/// A checked `.eh_frame` section, or what is kept of it, with its marks.
-struct MarkedFrame<'a> {
-    frame: CheckedFrame<'a>,
-    marks: FrameMarks,
-}
-
-/// Checks an `.eh_frame` section, with all its records or without bad ones.
-fn marked_frame<'a>(
-    alloc: Global,
-    section: EhSection<'a>,
-    target: Target,
-    leaves_out: bool,
-) -> Result<MarkedFrame<'a>, Fault>
-    requires { length section.bytes.now < 2 ^ 32 }
-    ensures frame { IfOk result (λ made. IsEhFrameOf leaves_out section.entry target made.frame) }
-    ensures marks { IfOk result (λ made.
-        AreMarksOf leaves_out section.entry target made.frame (marks_of made.marks)) }
-    ensures fault { IfErr result (λ fault. (fault ≡ memory)
-        ⊎ (eh_fault_of leaves_out section.entry target ≡ Some fault)) }
-{
-    let EhSection {
-        bytes,
-        bases,
-        is_aarch64,
-    } = section;
-    if leaves_out {
-        let kept = check_eh_frame_leaving_out(alloc, bytes, target, bases, is_aarch64)?;
-        let KeptRecords { frame, signals, .. } = kept;
-        let marks = marks_with(alloc, &frame, signals, is_aarch64)?;
-        return Ok(MarkedFrame { frame, marks });
-    }
-    let frame = check_eh_frame(alloc, bytes, target, bases, is_aarch64)?;
-    // The section can be read, so only memory may lack.
-    let Ok(signals) = signal_frames(alloc, bytes, target, bases, is_aarch64) else {
-        return Err(OUT_OF_MEMORY);
-    };
-    let marks = marks_with(alloc, &frame, signals, is_aarch64)?;
-    Ok(MarkedFrame { frame, marks })
 }
 
 impl Process {

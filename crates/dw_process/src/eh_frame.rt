@@ -1,16 +1,17 @@
 //! Modules whose rows come from an `.eh_frame` section.
 
-ghost use Rattle.std.specs.Prelude.{◌≡◌, ◌<◌, ◌^◌, ◌&&◌, ℕ, IfErr, IfOk, length};
+ghost use Rattle.std.specs.Prelude.{◌≡◌, ◌⊎◌, ◌<◌, ◌^◌, ◌&&◌, ℕ, IfErr, IfOk, Some, length};
 ghost use Rattle.dw_bytes.specs.Answers.{memory};
 ghost use Rattle.dw_signed_rows.specs.SignedRanges.{has_signed};
 ghost use Rattle.dw_signed_rows.specs.SignedSections.{is_signed_of};
-ghost use Rattle.dw_process.specs.EhModules.{IsAddedLeavingOut, IsEhAdded, IsEhRefused, IsRefusedLeavingOut};
+ghost use Rattle.dw_process.specs.EhModules.{AreMarksOf, IsAddedLeavingOut, IsEhAdded, IsEhFrameOf, IsEhRefused, IsRefusedLeavingOut, eh_fault_of};
+ghost use Rattle.dw_process.specs.Marks.{marks_of};
 
 use crate::address_range::AddressRange;
 use crate::process::Process;
 use crate::refusal::Refusal;
 use crate::shared_marks::FrameMarks;
-use dw_bytes::{Fault, OUT_OF_MEMORY};
+use dw_bytes::{Fault, OUT_OF_MEMORY, Target};
 use dw_eh_frame::Bases;
 use dw_eh_rows::{
     KeptRecords, SignalRange, check_eh_frame, check_eh_frame_leaving_out, signal_frames,
@@ -32,7 +33,7 @@ pub struct EhSection<'a> {
 
 /// The marks of a checked section with these signal frames. Only programs for aarch64 say where
 /// return addresses are signed.
-pub(crate) fn marks_with(
+fn marks_with(
     alloc: Global,
     frame: &CheckedFrame<'_>,
     signals: Vec<SignalRange>,
@@ -49,6 +50,46 @@ pub(crate) fn marks_with(
         SignedRanges::none(alloc)
     };
     Ok(FrameMarks { signals, signed })
+}
+
+/// A checked `.eh_frame` section, or what is kept of it, with its marks.
+pub(crate) struct MarkedFrame<'a> {
+    pub(crate) frame: CheckedFrame<'a>,
+    pub(crate) marks: FrameMarks,
+}
+
+/// Checks an `.eh_frame` section, with all its records or without bad ones.
+pub(crate) fn marked_frame<'a>(
+    alloc: Global,
+    section: EhSection<'a>,
+    target: Target,
+    leaves_out: bool,
+) -> Result<MarkedFrame<'a>, Fault>
+    requires { length section.bytes.now < 2 ^ 32 }
+    ensures frame { IfOk result (λ made. IsEhFrameOf leaves_out section.entry target made.frame) }
+    ensures marks { IfOk result (λ made.
+        AreMarksOf leaves_out section.entry target made.frame (marks_of made.marks)) }
+    ensures fault { IfErr result (λ fault. (fault ≡ memory)
+        ⊎ (eh_fault_of leaves_out section.entry target ≡ Some fault)) }
+{
+    let EhSection {
+        bytes,
+        bases,
+        is_aarch64,
+    } = section;
+    if leaves_out {
+        let kept = check_eh_frame_leaving_out(alloc, bytes, target, bases, is_aarch64)?;
+        let KeptRecords { frame, signals, .. } = kept;
+        let marks = marks_with(alloc, &frame, signals, is_aarch64)?;
+        return Ok(MarkedFrame { frame, marks });
+    }
+    let frame = check_eh_frame(alloc, bytes, target, bases, is_aarch64)?;
+    // The section can be read, so only memory may lack.
+    let Ok(signals) = signal_frames(alloc, bytes, target, bases, is_aarch64) else {
+        return Err(OUT_OF_MEMORY);
+    };
+    let marks = marks_with(alloc, &frame, signals, is_aarch64)?;
+    Ok(MarkedFrame { frame, marks })
 }
 
 impl Process {
@@ -74,17 +115,8 @@ impl Process {
             (IsEhRefused section.entry self.old.target load_address range room self.old.modules) }
         ensures same { IfErr result (λ _. self.new ≡ self.old) }
     {
-        let EhSection {
-            bytes,
-            bases,
-            is_aarch64,
-        } = section;
-        let frame = check_eh_frame(alloc, bytes, self.target(), bases, is_aarch64)?;
-        // The section can be read, so only memory may lack.
-        let Ok(signals) = signal_frames(alloc, bytes, self.target(), bases, is_aarch64) else {
-            return Err(Refusal::Section(OUT_OF_MEMORY));
-        };
-        let marks = marks_with(alloc, &frame, signals, is_aarch64)?;
+        let made = marked_frame(alloc, section, self.target(), false)?;
+        let MarkedFrame { frame, marks } = made;
         match self.add_checked(alloc, &frame, marks, load_address, range, cookie, room) {
             Ok(id) => Ok(id),
             Err(why) => Err(why),
@@ -113,14 +145,8 @@ impl Process {
             (IsRefusedLeavingOut section.entry self.old.target load_address range room self.old.modules) }
         ensures same { IfErr result (λ _. self.new ≡ self.old) }
     {
-        let EhSection {
-            bytes,
-            bases,
-            is_aarch64,
-        } = section;
-        let kept = check_eh_frame_leaving_out(alloc, bytes, self.target(), bases, is_aarch64)?;
-        let KeptRecords { frame, signals, .. } = kept;
-        let marks = marks_with(alloc, &frame, signals, is_aarch64)?;
+        let made = marked_frame(alloc, section, self.target(), true)?;
+        let MarkedFrame { frame, marks } = made;
         match self.add_checked(alloc, &frame, marks, load_address, range, cookie, room) {
             Ok(id) => Ok(id),
             Err(why) => Err(why),
