@@ -50,10 +50,11 @@ static int is_in_place(const dwcheck_module *module, const dwcheck_header *heade
            && other.cfa.offset == row->cfa.offset && memcmp(rules, others, row->count * sizeof *rules) == 0;
 }
 
-/* Finds the row of an address and whether its return address is signed. Returns whether both look-ups find the same. */
+/* Finds the row of an address and whether its return address is signed. If a module is given, a look-up in place has to find
+   the same. */
 static int find_row(const dwcheck_process *process, const dwcheck_module *module, const dwcheck_header *header, uint64_t address,
                     dwcheck_row *row, dwcheck_rule rules[DWCHECK_MAX_RULES], uint32_t *is_signed) {
     dwcheck_is_signed(process, address, is_signed);
-    return dwcheck_row_at(process, address, row, rules, DWCHECK_MAX_RULES) == DWCHECK_DONE
-           && is_in_place(module, header, address, row, rules, *is_signed);
+    if (dwcheck_row_at(process, address, row, rules, DWCHECK_MAX_RULES) != DWCHECK_DONE) return 0;
+    return !module || is_in_place(module, header, address, row, rules, *is_signed);
 }

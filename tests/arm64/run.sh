@@ -1,7 +1,8 @@
 #!/bin/bash
 # Tests what `make ARCH=aarch64` has built, in build/aarch64, under qemu-user: with Debian 12's libraries for arm64, and with
 # Debian 13's, whose return addresses are signed. Both are unpacked in build/, and nothing is installed.
-# Prints a line `ok NAME` or `FAILED NAME` for each test, and ends with status 1 if one failed.
+# Prints a line `ok NAME` or `FAILED NAME` for each test, and ends with status 1 if one failed. As many run side by side as
+# there are processors.
 set -u
 top=$(dirname "$(dirname "$(dirname "$(realpath "$0")")")")
 built=$top/build/aarch64
@@ -26,7 +27,7 @@ compile() { # PROGRAM FLAG..: compiles a program with the libraries
 emulate() { # ROOT PROGRAM WORD..
     local root=$1 program=$2
     shift 2
-    timeout 300 $emulator "$root" "$out/$program" "$@"
+    timeout 900 $emulator "$root" "$out/$program" "$@"
 }
 
 c_test() { # PROGRAM FLAG..: builds a test of c/tests, and runs it
@@ -96,16 +97,21 @@ modules() { # FLAG..: builds libraries that come and go, and runs the tests with
         emulate "$root" dl_modules "$out/called.so" "$out/small.so" "$out/large.so" "$out"/copy*.so
 }
 
-linked() { # FLAG..: whether a program with many functions finds its four frames
+write_linked() { # a program with many functions, which says how many frames it finds
     {
         printf '#include "dwcheck-dl.h"\n#include <stdio.h>\nint main(void) {\n    void *frames[9];\n    dwcheck_dl_prepare();\n'
         printf '    return printf("%%d frames\\n", dwcheck_dl_backtrace(frames, 9)) < 0;\n}\n'
         seq 900 | sed 's/.*/int f&(int x); int f&(int x) { return x + &; }/'
     } > "$out/linked.c"
+}
+
+linked() { # FLAG..: whether it finds its four frames
+    write_linked
     compile linked "$@" "$out/linked.c" && [ "$(emulate "$root" linked)" = "4 frames" ]
 }
 
 shared() { # over the shared libraries
+    write_linked
     ln -sf "$built/libdwcheck.so.$version" "$out/libdwcheck.so.2" && ln -sf "$built/libdwcheck-dl.so.$version" "$out/libdwcheck-dl.so.2" &&
         aarch64-linux-gnu-gcc -std=gnu11 $strict "$out/linked.c" "$out/libdwcheck-dl.so.2" "$out/libdwcheck.so.2" -Wl,-rpath,"$out" \
             -o "$out/over_shared" && [ "$(emulate "$root" over_shared)" = "4 frames" ]
@@ -116,8 +122,9 @@ in_place() { # look-ups in the C library's own section
         emulate "$root" in_place "$root/usr/lib/aarch64-linux-gnu/libc.so.6" 16
 }
 
+# The library's own return addresses aren't signed there: qemu would take twice as long.
 rows() { # ROOT [--signed]: rows of its libraries beside readelf's
-    local folder=$1/$libraries
+    local folder=$1/$libraries emulator="qemu-aarch64 -cpu cortex-a57 -L"
     shift
     aarch64-linux-gnu-gcc -std=gnu11 -D_GNU_SOURCE $strict -O2 "$top/tests/arm64/rows.c" "$built/libdwcheck.a" -o "$out/rows" &&
         "$top/tests/arm64/rows.py" "$@" "$folder"/{libc.so.6,libstdc++.so.6,libcrypto.so.3} "$folder/ld-linux-aarch64.so.1" -- \
@@ -197,41 +204,43 @@ elf_program() {
 "$top/tools/packages.sh" install_arm64 && "$top/tools/arm64_root.sh" "$newer" trixie libc6 libgcc-s1 libstdc++6 libssl3t64 libunwind8 liblzma5 || exit 1
 (cd "$top" && make -s ARCH=aarch64 but_elf) || exit 1
 
-test_of "arm64: the shared libraries are marked as protected" are_protected
-test_of "arm64: the shared libraries export what those for x86-64 do" export_the_same
-test_of "arm64: each function of the library has unwind rows" have_rows
-test_of "arm64: cases over the library for C" c_test cases -D_GNU_SOURCE
-test_of "arm64: cases while allocations fail in turn" c_test cases -D_GNU_SOURCE -DREFUSING
-test_of "arm64: steps of a cursor" c_test cursor -D_GNU_SOURCE
-test_of "arm64: walks with a cache" c_test cache -D_GNU_SOURCE
-test_of "arm64: calls that read one process at once" c_test readers -D_GNU_SOURCE -DROUNDS=100
-test_of "arm64: look-ups in place" in_place
-test_of "arm64: rows of Debian 12's libraries are readelf's" rows "$root"
-test_of "arm64: rows of Debian 13's libraries, which sign return addresses, are readelf's" rows "$newer" --signed
-test_of "arm64: stacks of dwcheck-dl are glibc's, with nothing called before" in_both dl
-test_of "arm64: the same with signed return addresses" in_both dl -mbranch-protection=standard
-test_of "arm64: stacks with signed return addresses, also where one is in its register" in_both dl_signed -mbranch-protection=standard
-test_of "arm64: the same by the key B" in_both dl_signed -mbranch-protection=pac-ret+leaf+b-key
-test_of "arm64: a stack with a shadow call stack" shadow
-test_of "arm64: walks from wherever a timer interrupts reach the start" c_test_with 1500 dl_interrupted
-test_of "arm64: the same with signed return addresses" c_test_with 1500 dl_interrupted -mbranch-protection=standard
-test_of "arm64: walks from contexts of any registers end" c_test dl_contexts
-test_of "arm64: stacks are glibc's, while libraries come and go" modules
-test_of "arm64: the same with signed return addresses" modules -mbranch-protection=standard
-test_of "arm64: a stack of a static program" linked -static
-test_of "arm64: a stack whose rows are in .debug_frame" linked -fno-asynchronous-unwind-tables -g
-test_of "arm64: the same with signed return addresses" linked -fno-asynchronous-unwind-tables -g -mbranch-protection=standard
-test_of "arm64: a stack over the shared libraries" shared
-test_of "arm64: the header says how much stack walks take" "$top/tools/stack_use.py" --aarch64
-test_of "arm64: types of libunwind have the same layout" unwind_layouts
-test_of "arm64: the libraries with libunwind's names export all of them" unwind_names
-test_of "arm64: frames by libunwind's calls are those of libunwind" unwind unwind
-test_of "arm64: the same with signed return addresses" unwind_signed
-test_of "arm64: libunwind's calls answer cursors and contexts of any bytes" unwind unwind_input
-test_of "arm64: frames of other processes are those of libunwind" unwind_remote unwind_remote
-test_of "arm64: libunwind's calls bear accessors that fail, lie, step and leave" unwind_remote unwind_remote_input
-test_of "arm64: walks from contexts of any registers, with pages of 64 KB" large_pages c_test dl_contexts
-test_of "arm64: stacks with pages of 64 KB, while libraries come and go" large_pages modules
-test_of "arm64: the cases of the program dwcheck" program
-test_of "arm64: dwcheck-elf checks programs" elf_program
+# The longest come first.
+test_beside "arm64: dwcheck-elf checks programs" elf_program
+test_beside "arm64: the cases of the program dwcheck" program
+test_beside "arm64: rows of Debian 13's libraries, which sign return addresses, are readelf's" rows "$newer" --signed
+test_beside "arm64: rows of Debian 12's libraries are readelf's" rows "$root"
+test_beside "arm64: libunwind's calls bear accessors that fail, lie, step and leave" unwind_remote unwind_remote_input
+test_beside "arm64: libunwind's calls answer cursors and contexts of any bytes" unwind unwind_input
+test_beside "arm64: frames by libunwind's calls are those of libunwind" unwind unwind
+test_beside "arm64: frames by libunwind's calls, with signed return addresses" unwind_signed
+test_beside "arm64: look-ups in place" in_place
+test_beside "arm64: frames of other processes are those of libunwind" unwind_remote unwind_remote
+test_beside "arm64: the shared libraries are marked as protected" are_protected
+test_beside "arm64: the shared libraries export what those for x86-64 do" export_the_same
+test_beside "arm64: each function of the library has unwind rows" have_rows
+test_beside "arm64: cases over the library for C" c_test cases -D_GNU_SOURCE
+test_beside "arm64: cases while allocations fail in turn" c_test cases -D_GNU_SOURCE -DREFUSING
+test_beside "arm64: steps of a cursor" c_test cursor -D_GNU_SOURCE
+test_beside "arm64: walks with a cache" c_test cache -D_GNU_SOURCE
+test_beside "arm64: calls that read one process at once" c_test readers -D_GNU_SOURCE -DROUNDS=100
+test_beside "arm64: stacks of dwcheck-dl are glibc's, with nothing called before" in_both dl
+test_beside "arm64: stacks of dwcheck-dl, with signed return addresses" in_both dl -mbranch-protection=standard
+test_beside "arm64: stacks with signed return addresses, also where one is in its register" in_both dl_signed -mbranch-protection=standard
+test_beside "arm64: stacks with return addresses signed by the key B" in_both dl_signed -mbranch-protection=pac-ret+leaf+b-key
+test_beside "arm64: a stack with a shadow call stack" shadow
+test_beside "arm64: walks from wherever a timer interrupts reach the start" c_test_with 1500 dl_interrupted
+test_beside "arm64: walks from wherever a timer interrupts, with signed return addresses" c_test_with 1500 dl_interrupted -mbranch-protection=standard
+test_beside "arm64: walks from contexts of any registers end" c_test dl_contexts
+test_beside "arm64: stacks are glibc's, while libraries come and go" modules
+test_beside "arm64: stacks while libraries come and go, with signed return addresses" modules -mbranch-protection=standard
+test_beside "arm64: a stack of a static program" linked -static
+test_beside "arm64: a stack whose rows are in .debug_frame" linked -fno-asynchronous-unwind-tables -g
+test_beside "arm64: a stack whose rows are in .debug_frame, with signed return addresses" linked -fno-asynchronous-unwind-tables -g -mbranch-protection=standard
+test_beside "arm64: a stack over the shared libraries" shared
+test_beside "arm64: the header says how much stack walks take" "$top/tools/stack_use.py" --aarch64
+test_beside "arm64: types of libunwind have the same layout" unwind_layouts
+test_beside "arm64: the libraries with libunwind's names export all of them" unwind_names
+test_beside "arm64: walks from contexts of any registers, with pages of 64 KB" large_pages c_test dl_contexts
+test_beside "arm64: stacks with pages of 64 KB, while libraries come and go" large_pages modules
+wait_for_tests
 exit $status
