@@ -13,6 +13,7 @@
 #include <stdio.h>
 #include <stdlib.h>
 #include <string.h>
+#include <sys/syscall.h>
 #include <unistd.h>
 
 /* What is of the processor: the name that libunwind gives a call, the registers of which walks know and those that are compared,
@@ -105,9 +106,9 @@ static void note(uint64_t address) {
     if (target.count < MOST_WORDS_OF_A_STEP) target.words[target.count++] = address;
 }
 
-/* The kernel says what can be read, when it copies that into a pipe. */
+/* The kernel says what can be read, when it copies that into a pipe. Sanitizers would see the call of the C library. */
 static bool copy(uint64_t address, unw_word_t *value) {
-    return write(target.pipe[1], (const void *)address, sizeof *value) == (ssize_t)sizeof *value
+    return syscall(SYS_write, target.pipe[1], (const void *)address, sizeof *value) == (long)sizeof *value
            && read(target.pipe[0], value, sizeof *value) == (ssize_t)sizeof *value;
 }
 
