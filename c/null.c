@@ -152,6 +152,16 @@ uint32_t dwcheck_process_add(dwcheck_process *process, const dwcheck_module *mod
     return proved_dwcheck_process_add(process, &copy, id, fault);
 }
 
+PROVED(dwcheck_process_add_both);
+uint32_t dwcheck_process_add_both(dwcheck_process *process, const dwcheck_module *module, const dwcheck_module *eh_frame,
+                                  uint64_t *id, dwcheck_fault *fault) {
+    if (module->frame && eh_frame->frame) return proved_dwcheck_process_add_both(process, module, eh_frame, id, fault);
+    dwcheck_module first = *module, second = *eh_frame;
+    first.frame = OR_NOTHING(first.frame);
+    second.frame = OR_NOTHING(second.frame);
+    return proved_dwcheck_process_add_both(process, &first, &second, id, fault);
+}
+
 PROVED(dwcheck_row_at);
 uint32_t dwcheck_row_at(const dwcheck_process *process, uint64_t address, dwcheck_row *row, dwcheck_rule *rules,
                         size_t rules_length) {

@@ -20,7 +20,7 @@ export using ::dwcheck_fault, ::dwcheck_counts, ::dwcheck_expression, ::dwcheck_
 // Calls.
 export using ::dwcheck_version, ::dwcheck_fault_name, ::dwcheck_fault_text, ::dwcheck_status_text,
     ::dwcheck_stop_text, ::dwcheck_check, ::dwcheck_report, ::dwcheck_process_add,
-    ::dwcheck_process_remove, ::dwcheck_process_share, ::dwcheck_process_close, ::dwcheck_module_at,
+    ::dwcheck_process_add_both, ::dwcheck_process_remove, ::dwcheck_process_share, ::dwcheck_process_close, ::dwcheck_module_at,
     ::dwcheck_module_check, ::dwcheck_module_left_out, ::dwcheck_record_at, ::dwcheck_row_at,
     ::dwcheck_is_signal_frame, ::dwcheck_is_signed,
     ::dwcheck_rule_bytes, ::dwcheck_unwind, ::dwcheck_backtrace,
@@ -36,7 +36,8 @@ export using ::DWCHECK_DONE, ::DWCHECK_REFUSED, ::DWCHECK_NO_MEMORY, ::DWCHECK_N
     ::DWCHECK_BAD_TARGET, ::DWCHECK_TOO_LONG, ::DWCHECK_BAD_KIND, ::DWCHECK_NONE,
     ::DWCHECK_OVERLAPS, ::DWCHECK_BAD_RANGE, ::DWCHECK_NO_PLACE, ::DWCHECK_NO_TABLE;
 export using ::DWCHECK_LITTLE, ::DWCHECK_BIG;
-export using ::DWCHECK_IN_FRAME, ::DWCHECK_IN_LISTS, ::DWCHECK_IN_EXPRESSION, ::DWCHECK_IN_ABI;
+export using ::DWCHECK_IN_FRAME, ::DWCHECK_IN_LISTS, ::DWCHECK_IN_EXPRESSION, ::DWCHECK_IN_ABI,
+    ::DWCHECK_IN_EH_FRAME;
 export using ::DWCHECK_DEBUG_FRAME, ::DWCHECK_EH_FRAME, ::DWCHECK_EH_FRAME_AARCH64, ::DWCHECK_LEAVE_OUT;
 export using ::DWCHECK_RECORD_CIE, ::DWCHECK_RECORD_FDE, ::DWCHECK_RECORD_EMPTY;
 export using ::DWCHECK_RULE_UNDEFINED, ::DWCHECK_RULE_SAME_VALUE, ::DWCHECK_RULE_OFFSET,

@@ -37,8 +37,8 @@
      dwcheck_rows_fill 50 KB where a row isn't compact; else it takes 3.2 KB, as dwcheck_rows_fill_compact does.
      dwcheck_process_add takes 52 KB, dwcheck_module_check and dwcheck_module_left_out 48 KB, dwcheck_check and
      dwcheck_report 40 KB, dwcheck_cursor_step_with 21 KB, dwcheck_evaluate 12 KB, dwcheck_process_share 5 KB, and
-     every other call less than 4 KB. A first call may take 3 KB more, in a program with libdwcheck.a that isn't
-     linked with -Wl,-z,now.
+     every other call less than 4 KB, but for dwcheck_process_add_both, which isn't measured. A first call may take
+     3 KB more, in a program with libdwcheck.a that isn't linked with -Wl,-z,now.
    - Fields called `reserved` are set to 0. A later version may give them a meaning.
 
    A call writes its results only if it returns DONE, and `fault` only if it returns REFUSED, unless its comment says
@@ -93,7 +93,8 @@ enum {
     DWCHECK_IN_FRAME = 0,      /* bytes of the frame section */
     DWCHECK_IN_LISTS = 1,      /* bytes of the location list section */
     DWCHECK_IN_EXPRESSION = 2, /* bytes of the expression */
-    DWCHECK_IN_ABI = 3         /* elements of `kept`; kept_length stands for the stack pointer */
+    DWCHECK_IN_ABI = 3,        /* elements of `kept`; kept_length stands for the stack pointer */
+    DWCHECK_IN_EH_FRAME = 4    /* bytes of .eh_frame, in dwcheck_process_add_both alone */
 };
 
 /* Why an input is refused. `number` says what is wrong (docs/PROFILE.md lists the numbers), `offset` says where, and
@@ -132,8 +133,8 @@ uint32_t dwcheck_report(const uint8_t *frame, size_t frame_length, const uint8_t
                         size_t expressions_length, dwcheck_fault *fault);
 
 /* ---- processes ----------------------------------------------------------------------------------------------------- */
-/* A process: its modules, each a compiled .debug_frame or .eh_frame section with a load address. Its fields are
-   private. If its bytes are all 0, it is closed: it has no module, and calls accept it. */
+/* A process: its modules, each a compiled .debug_frame or .eh_frame section, or both, with a load address. Its fields
+   are private. If its bytes are all 0, it is closed: it has no module, and calls accept it. */
 typedef struct dwcheck_process { void *opaque; uint64_t opaque_open; } dwcheck_process;
 #ifdef __cplusplus
 #define DWCHECK_CLOSED dwcheck_process{}
@@ -191,8 +192,21 @@ typedef struct dwcheck_module {
    and of its rows, and moves the entries of the modules that lie at higher addresses. */
 uint32_t dwcheck_process_add(dwcheck_process *process, const dwcheck_module *module, uint64_t *id, dwcheck_fault *fault);
 
+/* Adds one module with both sections, as dwcheck_process_add does with one. The row of an address is that of
+   .debug_frame, or if that has none, that of .eh_frame. Where .debug_frame has a row, an address is neither one of a
+   signal frame nor one at which return addresses are signed. `module` has .debug_frame (its `kind` is
+   DWCHECK_DEBUG_FRAME), and says what dwcheck_process_add uses of such a module. Of `eh_frame` only `frame`,
+   frame_length, `kind`, which is one of .eh_frame, `room` and the three fields at the end are used. Each `room`
+   bounds the table of its own section. Without a range, the module answers for the addresses from the first to the
+   last one that either section covers. Returns DONE, or for the same reasons as dwcheck_process_add, in this order:
+   TOO_LONG or BAD_KIND of either; BAD_TARGET of `module`; REFUSED with the first fault of .debug_frame, whose
+   `within` is DWCHECK_IN_FRAME, or if that section has none, with the fault of .eh_frame, whose `within` is
+   DWCHECK_IN_EH_FRAME; BAD_RANGE; OVERLAPS; NO_ROOM. NO_MEMORY may come in place of any but the first three. */
+uint32_t dwcheck_process_add_both(dwcheck_process *process, const dwcheck_module *module, const dwcheck_module *eh_frame,
+                                  uint64_t *id, dwcheck_fault *fault);
+
 /* Removes the module with this id. Returns DONE; or NONE if no module has it. The call allocates nothing, and frees
-   the module's table if no other process shares it. */
+   the module's tables if no other process shares them. */
 uint32_t dwcheck_process_remove(dwcheck_process *process, uint64_t id);
 
 /* Closes `other`, which is a process or DWCHECK_CLOSED, and makes it a process with the modules of `process`. If

@@ -215,6 +215,16 @@ public:
         return why;
     }
 
+    // Adds a module with both sections, and returns its id (dwcheck_process_add_both).
+    result<std::uint64_t> add_both(const dwcheck_module &module, const dwcheck_module &eh_frame) noexcept {
+        failure why;
+        std::uint64_t id = 0;
+        why.status = dwcheck_process_add_both(&handle, &module, &eh_frame, &id, &why.fault);
+        if (why.status == DWCHECK_DONE) return id;
+        why.overlapped = id;
+        return why;
+    }
+
     // Removes the module with this id, and returns whether there was one.
     bool remove(std::uint64_t id) noexcept { return dwcheck_process_remove(&handle, id) == DWCHECK_DONE; }
 

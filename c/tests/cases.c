@@ -448,6 +448,100 @@ static void eh_frames(void) {
     dwcheck_process_close(&p);
 }
 
+/* An .eh_frame section, linked at 0, of a signal frame at 0x10f0 up to 0x110f, whose CFA is r7+16. `good` covers the first
+   half of these addresses, with the CFA r7+8. */
+static const uint8_t beside[] = {
+    0x14, 0, 0, 0, 0, 0, 0, 0, 1, 'z', 'R', 'S', 0, 1, 0x78, 16, 1, 0x0b, 0x0c, 7, 16, 0x90, 1, 0,
+    0x10, 0, 0, 0, 0x1c, 0, 0, 0, 0xf0, 0x10, 0, 0, 0x20, 0, 0, 0, 0, 0, 0, 0};
+
+static dwcheck_module eh_module_of(const uint8_t *frame, size_t length) {
+    dwcheck_module m = module_of(frame, length, 0);
+    m.kind = DWCHECK_EH_FRAME;
+    return m;
+}
+
+static uint32_t add_both(dwcheck_process *p, dwcheck_module m, dwcheck_module e) { return dwcheck_process_add_both(p, &m, &e, &id, &fault); }
+
+/* The CFA of an address is r7 plus `offset`, or there is no row if that is 0; and whether it is one of a signal frame. */
+static void row_is(const dwcheck_process *p, uint64_t address, int64_t offset, uint32_t is_signal) {
+    dwcheck_row row;
+    uint32_t signal = 9;
+    IS(dwcheck_row_at(p, address, &row, rules, 4), offset ? DWCHECK_DONE : DWCHECK_NONE);
+    if (offset) { IS(row.cfa.reg, 7); IS(row.cfa.offset, offset); }
+    IS(dwcheck_is_signal_frame(p, address, &signal), DWCHECK_DONE); IS(signal, is_signal);
+}
+
+static void has_both_rows(const dwcheck_process *p) {
+    row_is(p, 0x10fff, 0, 0); row_is(p, 0x11000, 8, 0); row_is(p, 0x110ef, 8, 0); /* only in .debug_frame */
+    row_is(p, 0x110f0, 8, 0); row_is(p, 0x110ff, 8, 0);                           /* in both */
+    row_is(p, 0x11100, 16, 1); row_is(p, 0x1110f, 16, 1);                         /* only in .eh_frame */
+    row_is(p, 0x11110, 0, 0); row_is(p, 0x10f0, 0, 0);                            /* in neither */
+}
+
+static void both_sections(void) {
+    dwcheck_process p = DWCHECK_CLOSED, q = DWCHECK_CLOSED;
+    dwcheck_module m = module_of(good, sizeof good, 0x10000), e = eh_module_of(beside, sizeof beside);
+    uint8_t cut[sizeof beside];
+    m.cookie = 5;
+    e.load_address = 0x777; e.order = 7; e.address_size = 1; e.has_range = 1; e.first = 5; e.cookie = 6; /* none of these is used */
+    IS(add_both(&p, m, e), DWCHECK_DONE); IS(id, 1);
+    answers(&p, 0x11000, 1, 1); IS(loaded.first, 0x11000); IS(loaded.last, 0x1110f); IS(loaded.cookie, 5);
+    has_both_rows(&p);
+    IS(dwcheck_process_share(&p, &q), DWCHECK_DONE);
+    has_both_rows(&q);
+    dwcheck_process_close(&q);
+    for (int i = 0; i < 2; i++) { /* the second time by hints of the first */
+        IS(walk(&p, 0x110f8, 8, 2), DWCHECK_DONE); IS(count, 2); IS(frames[0].cfa.value, 0x7f10);
+        IS(walk(&p, 0x11104, 8, 2), DWCHECK_DONE); IS(count, 2); IS(frames[0].cfa.value, 0x7f18); IS(frames[1].address, 0x55005);
+    }
+    m.load_address = 0x20000;
+    IS(add_module(&p, m), DWCHECK_DONE); row_is(&p, 0x210f0, 8, 0); row_is(&p, 0x21100, 0, 0); /* one section as before */
+    e = eh_module_of(beside, sizeof beside);
+    e.load_address = 0x30000;
+    IS(add_module(&p, e), DWCHECK_DONE); row_is(&p, 0x310ef, 0, 0); row_is(&p, 0x310f0, 16, 1);
+    memcpy(cut, beside, sizeof cut);
+    cut[sizeof cut - 1] = 0x3f; /* no instruction */
+    m.load_address = 0x40000; e.frame = cut;
+    IS(add_both(&p, m, e), DWCHECK_REFUSED); IS(fault.number, 12); IS(fault.offset, sizeof cut - 1); IS(fault.within, DWCHECK_IN_EH_FRAME);
+    e.kind |= DWCHECK_LEAVE_OUT;
+    IS(add_both(&p, m, e), DWCHECK_DONE); row_is(&p, 0x41000, 8, 0); row_is(&p, 0x410ff, 8, 0); row_is(&p, 0x41100, 0, 0);
+    dwcheck_process_close(&p);
+}
+
+/* Each of two reasons to refuse both sections: the first one counts. */
+static void first_refusals_of_both(void) {
+    dwcheck_process p = DWCHECK_CLOSED;
+    dwcheck_module m = module_of(bad, (size_t)1 << 32, 0), e = eh_module_of(bad, sizeof bad);
+    IS(add(&p, 0), DWCHECK_DONE);
+    m.address_size = 4; m.has_range = 1; m.first = 0x1001; m.last = 0x1000; m.room = 10; e.room = 10; e.kind = 3;
+    IS(add_both(&p, m, e), DWCHECK_TOO_LONG);
+    m.frame_length = sizeof bad; e.frame_length = (size_t)1 << 32;
+    IS(add_both(&p, m, e), DWCHECK_TOO_LONG);
+    e.frame_length = sizeof bad;
+    IS(add_both(&p, m, e), DWCHECK_BAD_KIND);
+    e.kind = DWCHECK_DEBUG_FRAME;
+    IS(add_both(&p, m, e), DWCHECK_BAD_KIND);
+    e.kind = m.kind = DWCHECK_EH_FRAME;
+    IS(add_both(&p, m, e), DWCHECK_BAD_KIND);
+    m.kind = DWCHECK_DEBUG_FRAME;
+    IS(add_both(&p, m, e), DWCHECK_BAD_TARGET);
+    m.address_size = 8;
+    IS(add_both(&p, m, e), DWCHECK_REFUSED); IS(fault.number, 1); IS(fault.within, DWCHECK_IN_FRAME);
+    m.frame = good; m.frame_length = sizeof good;
+    IS(add_both(&p, m, e), DWCHECK_REFUSED); IS(fault.number, 1); IS(fault.within, DWCHECK_IN_EH_FRAME);
+    e.frame = beside; e.frame_length = sizeof beside;
+    IS(add_both(&p, m, e), DWCHECK_BAD_RANGE);
+    m.last = 0x1001;
+    IS(add_both(&p, m, e), DWCHECK_OVERLAPS); IS(id, 1);
+    m.first = m.last = 0x1100;
+    IS(add_both(&p, m, e), DWCHECK_NO_ROOM);
+    m.room = room;
+    IS(add_both(&p, m, e), DWCHECK_NO_ROOM);
+    e.room = room;
+    IS(add_both(&p, m, e), DWCHECK_DONE); IS(id, 2); row_is(&p, 0x1100, 16, 1); row_is(&p, 0x1101, 0, 0);
+    dwcheck_process_close(&p);
+}
+
 /* The CIE and the FDE of `eh` and of `good`, read one after another, and what their sections contain. */
 static void records(void) {
     dwcheck_module m = module_of(eh, sizeof eh, 0x10000);
@@ -618,6 +712,21 @@ static void signed_addresses(void) {
     }
     IS(dwcheck_is_signed(&p, 0x20fff, &is_signed), DWCHECK_DONE); IS(is_signed, 0);
     IS(dwcheck_is_signed(&p, 0x21020, &is_signed), DWCHECK_DONE); IS(is_signed, 0);
+    dwcheck_process_close(&p);
+}
+
+/* The same with a .debug_frame that covers the first two digits: there no return address is signed. */
+static void signed_addresses_of_both(void) {
+    static const char where[] = "00101000";
+    dwcheck_process p = DWCHECK_CLOSED;
+    uint8_t shorter[sizeof good];
+    memcpy(shorter, good, sizeof good);
+    shorter[sizeof good - 8] = 8; shorter[sizeof good - 7] = 0;
+    IS(add_both(&p, module_of(shorter, sizeof shorter, 0x20000), signed_module()), DWCHECK_DONE);
+    for (uint64_t i = 0; i < 0x20; i++) {
+        uint32_t is_signed = 9;
+        IS(dwcheck_is_signed(&p, 0x21000 + i, &is_signed), DWCHECK_DONE); IS(is_signed, (uint32_t)(where[i / 4] - '0'));
+    }
     dwcheck_process_close(&p);
 }
 
@@ -806,6 +915,31 @@ static long memory(void) {
         IS(dwcheck_row_at(&p, 0x1010, &row, rules, 4), first == DWCHECK_DONE ? DWCHECK_DONE : DWCHECK_NONE);
         IS(dwcheck_row_at(&p, 0x11010, &row, rules, 4), second == DWCHECK_DONE ? DWCHECK_DONE : DWCHECK_NONE);
         IS(dwcheck_row_at(&q, 0x11010, &row, rules, 4), third == DWCHECK_DONE && second == DWCHECK_DONE ? DWCHECK_DONE : DWCHECK_NONE);
+        dwcheck_process_close(&p);
+        dwcheck_process_close(&q);
+        IS(held - before, 0);
+        if (left >= 0) return m;
+    }
+}
+
+static long memory_of_both(void) {
+    long m, left, before = held;
+    for (m = 0;; m++) { /* each allocation of two adds of both sections and a share fails in turn */
+        dwcheck_process p = DWCHECK_CLOSED, q = DWCHECK_CLOSED;
+        dwcheck_module e = eh_module_of(beside, sizeof beside);
+        uint32_t first, second, third;
+        until = m;
+        first = add_both(&p, module_of(good, sizeof good, 0), signed_module());
+        second = add_both(&p, module_of(good, sizeof good, 0x10000), e);
+        third = dwcheck_process_share(&p, &q);
+        left = until;
+        until = -1;
+        IS(first == DWCHECK_DONE || first == DWCHECK_NO_MEMORY, 1);
+        IS((first == DWCHECK_NO_MEMORY) + (second == DWCHECK_NO_MEMORY) + (third == DWCHECK_NO_MEMORY), left < 0);
+        row_is(&p, 0x1010, first == DWCHECK_DONE ? 8 : 0, 0);
+        row_is(&p, 0x11010, second == DWCHECK_DONE ? 8 : 0, 0);
+        row_is(&p, 0x11100, second == DWCHECK_DONE ? 16 : 0, second == DWCHECK_DONE);
+        row_is(&q, 0x11100, third == DWCHECK_DONE && second == DWCHECK_DONE ? 16 : 0, third == DWCHECK_DONE && second == DWCHECK_DONE);
         dwcheck_process_close(&p);
         dwcheck_process_close(&q);
         IS(held - before, 0);
@@ -1227,6 +1361,11 @@ static void nothing(void) {
     dwcheck_lookup lookup = {0, 0x10, 0, 0};
     IS(dwcheck_check(NULL, 0, NULL, 0, DWCHECK_LITTLE, 8, &fault), DWCHECK_DONE);
     IS(add_within(&p, module_of(NULL, 0, 0), 0, 0), DWCHECK_DONE);
+    IS(add_both(&p, module_of(NULL, 0, 0), eh_module_of(NULL, 0)), DWCHECK_BAD_RANGE);
+    IS(add_both(&p, module_of(NULL, 0, 0x5000), eh_module_of(beside, sizeof beside)), DWCHECK_DONE); row_is(&p, 0x60f0, 16, 1);
+    IS(dwcheck_process_remove(&p, id), DWCHECK_DONE);
+    IS(add_both(&p, module_of(good, sizeof good, 0x5000), eh_module_of(NULL, 0)), DWCHECK_DONE); row_is(&p, 0x60f0, 8, 0);
+    IS(dwcheck_process_remove(&p, id), DWCHECK_DONE);
     IS(add(&p, 0x5000), DWCHECK_DONE);
     IS(dwcheck_row_at(&p, 0x6010, &row, NULL, 0), DWCHECK_DONE);
     IS(row.count, 1);
@@ -1267,12 +1406,15 @@ int main(void) {
     reports();
     texts();
     eh_frames();
+    both_sections();
+    first_refusals_of_both();
     records();
     module_checks();
     left_out();
     signal_walks(17);
     signal_walks(97);
     signed_addresses();
+    signed_addresses_of_both();
     other_signatures();
     signed_walks(17);
     signed_walks(97);
@@ -1299,7 +1441,7 @@ int main(void) {
 #endif
     nothing();
     threads();
-    m = memory();
+    m = memory() + memory_of_both();
     printf("%ld requests for memory were refused, each alone; %d wrong\n", m, wrong);
     return wrong != 0;
 }

@@ -32,6 +32,7 @@ byte at offset 8. Numbers may be sums, differences and products, also with i.
                            body ends there: LOW is the offset in the record of its length's lowest byte,
                            FIELDS where the length and each field end
     add FRAME [load=N] [first=N last=N] [cookie=N] [room=N]   the id of the module, or why it isn't added
+    add_both FRAME EH_FRAME [load=N] [first=N last=N] [cookie=N] [room=N] [eh_room=N]   the same with both sections
     least_room FRAME N     the least room, of those below N, with which a module is added
     remove ID, close       whether there was such a module
     share, use_shared      `share` makes a second process, to which `use_shared` turns

@@ -9,7 +9,7 @@ from dwcheck import (_Answer, _Block, _Counts, _Fault, _Frame, _Module, _Record,
 from notation import number_of
 
 DONE, REFUSED, NONE, OVERLAPS = 0, 1, 7, 8
-WITHIN = ("frame", "lists", "expression", "abi")
+WITHIN = ("frame", "lists", "expression", "abi", "eh_frame")
 KINDS = {"cfa": 0, "register": 1, "location": 2}
 OUTCOMES = ("value", "unreadable", "division by zero", "nowhere", "address", "register", "value", "bytes", "pieces")
 ANSWERS = ("not covered", "value", "undefined", "unreadable", "division by zero")
@@ -223,6 +223,16 @@ class Session(Changes):
         if status == OVERLAPS:
             return f"overlaps {number.value}"
         self.added = number.value
+        return str(number.value) if status == DONE else refused(status, fault)
+
+    def call_add_both(self, known, frame, eh_frame, *words):
+        named = {name: number_of(value) for name, value in (word.split("=") for word in words)}
+        eh_room = {"room": named.pop("eh_room")} if "eh_room" in named else {}
+        module, other, number, fault = self.module(known.of(frame), **named), self.module(known.of(eh_frame), **eh_room), _u64(), _Fault()
+        module.kind = 0
+        status = _library.dwcheck_process_add_both(self.handle(), c.byref(module), c.byref(other), c.byref(number), c.byref(fault))
+        if status == OVERLAPS:
+            return f"overlaps {number.value}"
         return str(number.value) if status == DONE else refused(status, fault)
 
     def call_least_room(self, known, frame, rooms):

@@ -1,3 +1,4 @@
+pub mod BothModules
 pub mod CachedFills
 pub mod Checks
 pub mod WalkCursors

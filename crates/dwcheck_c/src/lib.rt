@@ -3,6 +3,7 @@
 #![tactic(auto)]
 
 mod backtrace;
+mod both_sections;
 mod cached_walks;
 mod checks;
 mod cursor;
