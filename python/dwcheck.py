@@ -79,11 +79,11 @@ _library = _load()
 
 class Refused(Exception):
     """A section, an expression or an ABI isn't well formed: `number` and `name` of the first fault, its
-    `offset`, and what the offset counts (`within`: frame, lists, expression or abi)."""
+    `offset`, and what the offset counts (`within`: frame, lists, expression, abi or eh_frame)."""
 
     def __init__(self, fault):
         self.number, self.offset = fault.number, fault.offset
-        self.within = ("frame", "lists", "expression", "abi")[fault.within] if fault.within < 4 else "?"
+        self.within = ("frame", "lists", "expression", "abi", "eh_frame")[fault.within] if fault.within < 5 else "?"
         self.name = _fault_name(fault.number)
         super().__init__(f"{self.within}: {self.number} {self.name} at {self.offset:#x}")
 
@@ -326,6 +326,19 @@ class Process:
         number, fault = _u64(), _Fault()
         with self._changing():
             _check(_library.dwcheck_process_add(c.byref(self._handle), c.byref(module), c.byref(number), c.byref(fault)), fault)
+        return number.value
+
+    def add_both(self, debug_frame: bytes, eh_frame: bytes, address: int, load_address: int = 0, is_aarch64: bool = False,
+                 addresses: Optional[Tuple[int, int]] = None, cookie: int = 0, leave_out: bool = False) -> int:
+        """Adds a module with both sections, and returns its id. `address` is that of .eh_frame, as linked. The row of an
+        address is that of .debug_frame, or if that has none, that of .eh_frame. The rest is as with `add`."""
+        order, size = self.order, self.address_size
+        module = _module(debug_frame, load_address, None, False, order, size, addresses, cookie, False)
+        other = _module(eh_frame, load_address, address, is_aarch64, order, size, addresses, cookie, leave_out)
+        number, fault = _u64(), _Fault()
+        with self._changing():
+            _check(_library.dwcheck_process_add_both(c.byref(self._handle), c.byref(module), c.byref(other), c.byref(number),
+                                                     c.byref(fault)), fault)
         return number.value
 
     def remove(self, module: int) -> bool:

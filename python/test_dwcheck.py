@@ -44,6 +44,17 @@ class Rows(unittest.TestCase):
             self.assertEqual((row.rules[6].kind, row.rules[6].offset), ("offset", -16))
             self.assertIsNone(process.row(0x11020))
 
+    def test_rows_of_both_sections(self):
+        eh_frame = bytes.fromhex("14000000 00000000 01 7a5200 01 78 10 01 0b 0c0708 9001 0000"
+                                 "10000000 1c000000 10100000 20000000 00 000000")
+        with dwcheck.Process() as process:
+            process.add_both(WORKED, eh_frame, 0, load_address=0x10000)
+            rows = [process.row(address) for address in (0x11010, 0x11020, 0x11030)]
+            self.assertEqual([row and (row.start, row.end) for row in rows], [(0x1004, 0x1020), (0x1010, 0x1030), None])
+            with self.assertRaises(dwcheck.Refused) as caught:
+                process.add_both(WORKED, eh_frame[:-1], 0)
+            self.assertEqual((caught.exception.name, caught.exception.within), ("Truncated", "eh_frame"))
+
     def test_a_range_without_addresses_is_refused(self):
         with self.assertRaises(ValueError):
             dwcheck.Process().add(WORKED, addresses=(0, 0))

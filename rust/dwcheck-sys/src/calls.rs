@@ -108,8 +108,25 @@ extern "C" {
         fault: *mut Fault,
     ) -> u32;
 
+    /// Adds one module with both sections, as `dwcheck_process_add` does with one. The row of an
+    /// address is that of `.debug_frame`, or if that has none, that of `.eh_frame`. Where
+    /// `.debug_frame` has a row, an address is neither one of a signal frame nor one at which return
+    /// addresses are signed. `module` has `.debug_frame`, and all that `dwcheck_process_add` uses of
+    /// such a module. Of `eh_frame` only `frame`, `frame_length`, `kind`, `room` and the three fields
+    /// at the end are used. Each `room` bounds the table of its own section. Without a range, the
+    /// module answers for the addresses from the first to the last one that either section covers.
+    /// Returns what `dwcheck_process_add` returns. The fault of REFUSED is that of `.debug_frame`
+    /// (`IN_FRAME`), or if that has none, that of `.eh_frame` (`IN_EH_FRAME`).
+    pub fn dwcheck_process_add_both(
+        process: *mut Process,
+        module: *const Module,
+        eh_frame: *const Module,
+        id: *mut u64,
+        fault: *mut Fault,
+    ) -> u32;
+
     /// Removes the module with this id. Returns DONE; or NONE if no module has this id. The call
-    /// doesn't allocate. It frees the module's table if no other process shares the table.
+    /// doesn't allocate. It frees the module's tables if no other process shares them.
     pub fn dwcheck_process_remove(process: *mut Process, id: u64) -> u32;
 
     /// Makes `other` a process with the modules of `process`, after closing what `other` was

@@ -67,7 +67,7 @@ pub const NO_TABLE: u32 = 11;
 pub const LITTLE: u32 = 0;
 pub const BIG: u32 = 1;
 
-/// A fault's `offset` counts bytes of the frame section, from 0. (The four IN_ constants are the
+/// A fault's `offset` counts bytes of the frame section, from 0. (The five IN_ constants are the
 /// values of a fault's `within`.)
 pub const IN_FRAME: u32 = 0;
 /// A fault's `offset` counts bytes of the location list section.
@@ -76,6 +76,8 @@ pub const IN_LISTS: u32 = 1;
 pub const IN_EXPRESSION: u32 = 2;
 /// A fault's `offset` counts elements of `kept`; `kept_length` stands for the stack pointer.
 pub const IN_ABI: u32 = 3;
+/// A fault's `offset` counts bytes of `.eh_frame`, in `dwcheck_process_add_both` alone.
+pub const IN_EH_FRAME: u32 = 4;
 
 /// Why an input is refused. `number` says what is wrong (docs/PROFILE.md lists the numbers),
 /// `offset` says where, and `within` says what the offset counts.

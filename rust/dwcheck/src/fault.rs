@@ -243,6 +243,9 @@ pub enum Section {
     /// The ABI. The offset is an index into its callee-saved registers, from 0. The stack pointer's
     /// index is the one after the last callee-saved register.
     Abi,
+    /// The `.eh_frame` section of a module that has `.debug_frame` too
+    /// ([`Process::add_both`](crate::Process::add_both)). The offset counts bytes from its start.
+    EhFrame,
     /// A number that this crate doesn't know, because the library is newer.
     Other(u32),
 }
@@ -254,6 +257,7 @@ impl Section {
             ffi::IN_LISTS => Section::Lists,
             ffi::IN_EXPRESSION => Section::Expression,
             ffi::IN_ABI => Section::Abi,
+            ffi::IN_EH_FRAME => Section::EhFrame,
             other => Section::Other(other),
         }
     }
@@ -266,6 +270,7 @@ impl fmt::Display for Section {
             Section::Lists => "lists",
             Section::Expression => "expression",
             Section::Abi => "abi",
+            Section::EhFrame => "eh_frame",
             Section::Other(_) => "unknown section",
         })
     }

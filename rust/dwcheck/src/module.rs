@@ -125,7 +125,8 @@ pub struct Module {
     /// A number of the caller's own, such as an index. It is given back with the module and its
     /// rows.
     pub cookie: u64,
-    /// A bound on the number of bytes that the module's table takes; see [`Module::room`].
+    /// A bound on the number of bytes that the module's table takes, or each of its two tables; see
+    /// [`Module::room`].
     pub room: usize,
     /// What has to be known of an `.eh_frame` section. If this is `None`, the section is a
     /// `.debug_frame` section.

@@ -4,7 +4,7 @@ mod walks;
 
 use crate::fault::Error;
 use crate::ffi;
-use crate::module::{LoadedModule, Module, ModuleId};
+use crate::module::{EhFrame, LoadedModule, Module, ModuleId};
 use crate::row::Row;
 use crate::rows::Rows;
 use dwcheck_types::target::Target;
@@ -16,8 +16,8 @@ use std::ptr::null_mut;
 /// of compilers are shorter.
 const EXPRESSION_BYTES: usize = 64;
 
-/// A process: its modules, each a compiled `.debug_frame` or `.eh_frame` section with a load address
-/// and the range of addresses that it answers for.
+/// A process: its modules, each a compiled `.debug_frame` or `.eh_frame` section, or both, with a load
+/// address and the range of addresses that it answers for.
 ///
 /// A look-up uses the module that answers for the address. It finds that module in O(log n) time
 /// among n modules. The addresses that are passed to look-ups and walks are as loaded: they are those
@@ -71,8 +71,17 @@ unsafe impl Send for Process {}
 // `dwcheck_unwind`, `dwcheck_backtrace`, `dwcheck_backtrace_cached`, `dwcheck_cursor_step`,
 // `dwcheck_cursor_step_with` and `dwcheck_process_share` take the process by a pointer to const, and
 // the library allows any number of them at once, in any threads. The calls that change a process,
-// `dwcheck_process_add`, `_remove` and `_close`, are made with a `&mut Process`.
+// `dwcheck_process_add`, `_add_both`, `_remove` and `_close`, are made with a `&mut Process`.
 unsafe impl Sync for Process {}
+
+/// The id that a call of the library has added, or why it added none.
+fn added(status: u32, id: u64, fault: ffi::Fault) -> Result<ModuleId, Error> {
+    if status == ffi::OVERLAPS {
+        return Err(Error::Overlaps(ModuleId(id)));
+    }
+    Error::check(status, fault)?;
+    Ok(ModuleId(id))
+}
 
 impl Process {
     /// A process without modules, whose modules' sections are for this target. This allocates
@@ -141,11 +150,62 @@ impl Process {
                 &mut fault,
             )
         };
-        if status == ffi::OVERLAPS {
-            return Err(Error::Overlaps(ModuleId(id)));
-        }
-        Error::check(status, fault)?;
-        Ok(ModuleId(id))
+        added(status, id, fault)
+    }
+
+    /// Adds one module with both sections, as [`add`](Process::add) does with one.
+    ///
+    /// The row of an address is that of `.debug_frame`, or if that has none, that of `.eh_frame`. In
+    /// some programs functions have rows in only one of the two. Where `.debug_frame` has a row, an
+    /// address is neither one of a signal frame nor one at which return addresses are signed.
+    ///
+    /// `section` says what has to be known of `.eh_frame`; `module.eh_frame` isn't read. The module's
+    /// room bounds each of its two tables. If the module has no range, it answers for the addresses
+    /// from the first to the last one that either section covers.
+    ///
+    /// # Errors
+    ///
+    /// Those of [`add`](Process::add). A fault of `.eh_frame` has [`Section::EhFrame`](crate::Section::EhFrame),
+    /// and comes only if `.debug_frame` has none.
+    ///
+    /// ```
+    /// # const SECTION: &[u8] = &[
+    /// #     0x14, 0, 0, 0, 0xff, 0xff, 0xff, 0xff, 4, 0, 8, 0, 1, 0x78, 0x10, 0x0c, 7, 8, 0x90, 1, 0, 0, 0, 0,
+    /// #     0x1c, 0, 0, 0, 0, 0, 0, 0, 0, 0x10, 0, 0, 0, 0, 0, 0, 0x20, 0, 0, 0, 0, 0, 0, 0,
+    /// #     0x41, 0x0e, 0x10, 0x86, 2, 0x43, 0x0d, 6,
+    /// # ];
+    /// # const EH_SECTION: &[u8] = &[
+    /// #     0x14, 0, 0, 0, 0, 0, 0, 0, 1, b'z', b'R', 0, 1, 0x78, 0x10, 1, 0x0b, 0x0c, 7, 8, 0x90, 1, 0, 0,
+    /// #     0x10, 0, 0, 0, 0x1c, 0, 0, 0, 0x30, 0x10, 0, 0, 0x20, 0, 0, 0, 0, 0, 0, 0,
+    /// # ];
+    /// use dwcheck::{EhFrame, Module, Process, Target};
+    ///
+    /// // SECTION covers the addresses 0x1000 to 0x101f, and EH_SECTION 0x1030 to 0x104f.
+    /// let mut process = Process::new(Target::LITTLE_64);
+    /// process.add_both(SECTION, EH_SECTION, EhFrame::at(0), Module::at(0))?;
+    /// assert!(process.row(0x1010).is_some() && process.row(0x1030).is_some());
+    /// assert!(process.row(0x1028).is_none());
+    /// # Ok::<(), dwcheck::Error>(())
+    /// ```
+    pub fn add_both(
+        &mut self,
+        debug_frame: &[u8],
+        eh_frame: &[u8],
+        section: EhFrame,
+        module: Module,
+    ) -> Result<ModuleId, Error> {
+        let mut module = module;
+        module.eh_frame = None;
+        let first = module.raw(debug_frame, self.target);
+        let second = module.eh_frame(section).raw(eh_frame, self.target);
+        let mut id = 0;
+        let mut fault = ffi::Fault::default();
+        // SAFETY: the process is borrowed exclusively, the sections are only read, and the other
+        // pointers are to locals.
+        let status = unsafe {
+            ffi::dwcheck_process_add_both(&mut self.raw, &first, &second, &mut id, &mut fault)
+        };
+        added(status, id, fault)
     }
 
     /// Removes the module with this id. Returns whether there was such a module.

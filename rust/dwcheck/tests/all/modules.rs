@@ -1,7 +1,9 @@
 //! Tests of adding modules to a process, finding them, and removing them.
 
 use crate::common::*;
-use dwcheck::{CfaRule, EhFrame, Error, FaultKind, Module, ModuleId, Process, Rule, Target};
+use dwcheck::{
+    CfaRule, EhFrame, Error, FaultKind, Module, ModuleId, Process, Rule, Section, Target,
+};
 use std::ops::RangeInclusive;
 
 /// Adds row 1's section, loaded at `load_address`, for a range of addresses. The section covers 0x1000
@@ -215,4 +217,40 @@ fn only_aarch64_has_its_instructions() {
         .is_ok());
     let mut process = Process::new(Target::LITTLE_64);
     assert!(process.add(&section, module(EhFrame::at(0x2000))).is_err());
+}
+
+#[test]
+fn modules_with_both_sections() {
+    let mut process = Process::new(Target::LITTLE_64);
+    // .debug_frame covers 0x1000..0x1020, and .eh_frame 0x1018..0x1024, from 0x1021 on with a signal frame
+    let section = EhFrame::at(0x2018);
+    let module = Module::at(0).cookie(3);
+    let id = process.add_both(&row_1(), &eh_frame(), section.clone(), module.clone());
+    let found = process.module_at(0x1023).unwrap();
+    assert_eq!((Ok(found.id), found.cookie), (id, 3));
+    assert_eq!(found.range, 0x1000..=0x1023);
+    assert_eq!(process.row(0x1018).unwrap().addresses, 0x1004..0x1020);
+    assert_eq!(process.row(0x1020).unwrap().addresses, 0x1020..0x1021);
+    assert!(process.is_signal_frame(0x1021) && !process.is_signal_frame(0x101f));
+    assert_eq!(process.row(0x1024), None);
+    assert_eq!(
+        process.add_both(&row_1(), &eh_frame(), section.clone(), module.clone()),
+        Err(Error::Overlaps(found.id))
+    );
+    // a fault says of which section it is
+    let (mut debug_cut, mut eh_cut) = (row_1(), eh_frame());
+    debug_cut.pop();
+    eh_cut.pop();
+    let module = module.range(0x9000..=0x9fff);
+    for (debug_frame, its_section) in [(&debug_cut, Section::Frame), (&row_1(), Section::EhFrame)] {
+        match process.add_both(debug_frame, &eh_cut, section.clone(), module.clone()) {
+            Err(Error::Refused(fault)) => {
+                assert_eq!(
+                    (fault.kind, fault.section),
+                    (FaultKind::Truncated, its_section)
+                );
+            }
+            other => panic!("{:?}", other),
+        }
+    }
 }
