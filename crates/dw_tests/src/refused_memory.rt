@@ -12,11 +12,12 @@ use dw_check::{
     Backtrace, End, LoadFault, Reading, Reads, ReportFault, Source, Stop, Through, Usage,
     backtrace, check, load, report, request, run,
 };
+use dw_eh_frame::Bases;
 use dw_eh_rows::{check_eh_frame, is_signal_address, signal_frames};
 use dw_frame::{Entry, entries};
 use dw_loclists::check_lists;
 use dw_ops::{Expression, Operation, operations};
-use dw_process::{EhSection, Process, Refusal};
+use dw_process::{BothRefusal, BothSections, EhSection, Process, Refusal, TableRooms};
 use dw_rows::{CheckedFrame, check_cie, check_fde, check_frame};
 use dw_rules::Abi;
 use dw_stack::{Kind, Mode, State, certify, recheck};
@@ -47,6 +48,7 @@ enum Call {
     CheckEhFrame,
     SignalFrames,
     ProcessAddEhFrame,
+    ProcessAddBoth,
     Report,
     ReportWithoutLists,
     Request,
@@ -365,6 +367,55 @@ fn of_eh_frame(alloc: Global, call: Call, section: &[u8]) -> Result<Numbers, Fau
     }
 }
 
+/// Where a section like `SIGNAL` covers 0x101f to 0x1022. `FUNCTION` covers the first of these addresses.
+const BESIDE: Bases = Bases {
+    section: 0x2016,
+    text_start: None,
+    data_start: None,
+};
+
+/// Adds a module with `FUNCTION` as `.debug_frame` and with this `.eh_frame`. Its id; where the rows of
+/// 0x101f and of 0x1020 end; and which of these two addresses are those of signal frames, as the sum
+/// of 1 and 2.
+fn of_both_sections(alloc: Global, section: &[u8]) -> Result<Numbers, Fault>
+    requires { length section.now < 2 ^ 32 }
+{
+    let mut process = Process::new(alloc, LITTLE);
+    let sections = BothSections {
+        debug_frame: &FUNCTION,
+        eh_frame: EhSection {
+            bytes: section,
+            bases: BESIDE,
+            is_aarch64: false,
+        },
+        leaves_out: false,
+    };
+    let rooms = TableRooms {
+        debug_frame: 1 << 16,
+        eh_frame: 1 << 16,
+    };
+    match process.add_both(alloc, sections, 0x40_0000, None, 7, rooms) {
+        Ok(id) => Ok((
+            id as usize,
+            row_end(&process, 0x40_101f),
+            row_end(&process, 0x40_1020),
+            usize::from(process.is_signal_frame(0x40_101f))
+                + 2 * usize::from(process.is_signal_frame(0x40_1020)),
+        )),
+        Err(BothRefusal::Memory) if process.modules().is_empty() => Err(OUT_OF_MEMORY),
+        Err(BothRefusal::EhFrame(fault)) if process.modules().is_empty() => Err(fault),
+        Err(_) => Ok((0, 0, 0, 0)),
+    }
+}
+
+/// Where the row of an address ends; 0 if there is none.
+fn row_end(process: &Process, address: u64) -> usize {
+    match process.row_for_address(address) {
+        Some(found) => found.row.end_address() as usize,
+        None => 0,
+    }
+}
+
 /// A writer to an array, which doesn't allocate.
 #[derive(Drop)]
 struct Fixed {
@@ -524,6 +575,7 @@ fn answer(
         Call::CheckEhFrame | Call::SignalFrames | Call::ProcessAddEhFrame => {
             of_eh_frame(alloc, call, bytes)
         }
+        Call::ProcessAddBoth => of_both_sections(alloc, bytes),
         Call::Report => of_report(rt, alloc, bytes, &PAIR_AND_DEFAULT, text),
         Call::ReportWithoutLists => of_report(rt, alloc, bytes, &[], text),
         Call::Request | Call::Run => of_program(rt, alloc, call, bytes, text),
@@ -576,7 +628,7 @@ expr frame 0x00000038 register ops 0 depth 1
 ";
 
 /// Calls, the bytes that they take, and what they write and give.
-const CALLS: [(Call, &[u8], &str, Numbers); 26] = [
+const CALLS: [(Call, &[u8], &str, Numbers); 27] = [
     (Call::Operations, &PUSHES, "", (40, 40, 0, 0)),
     (Call::Certify, &PUSHES, "", (40, 40, 40, 40)),
     (Call::Recheck, &PUSHES, "", (40, 40, 40, 40)),
@@ -598,6 +650,7 @@ const CALLS: [(Call, &[u8], &str, Numbers); 26] = [
     (Call::CheckEhFrame, &SIGNAL, "", (1, 1, 2, 2)),
     (Call::SignalFrames, &SIGNAL, "", (1, 0, 1, 0)),
     (Call::ProcessAddEhFrame, &SIGNAL, "", (1, 0x1009, 0x100b, 0)),
+    (Call::ProcessAddBoth, &SIGNAL, "", (1, 0x1020, 0x1021, 2)),
     (Call::Report, &FUNCTION, REPORT, (1, 0, 0, 0)),
     (
         Call::ReportWithoutLists,
@@ -614,7 +667,7 @@ const CALLS: [(Call, &[u8], &str, Numbers); 26] = [
 const REFUSED: &str = "refused 3 ReservedLength frame 0x00000000\n";
 
 /// Calls that refuse their bytes.
-const REFUSALS: [(Call, &[u8], FaultKind, u32); 6] = [
+const REFUSALS: [(Call, &[u8], FaultKind, u32); 7] = [
     (
         Call::Operations,
         &[0x31, 0x18],
@@ -631,6 +684,7 @@ const REFUSALS: [(Call, &[u8], FaultKind, u32); 6] = [
     ),
     (Call::CheckEhFrame, &SIGNAL_CUT, FaultKind::Truncated, 28),
     (Call::SignalFrames, &SIGNAL_CUT, FaultKind::Truncated, 28),
+    (Call::ProcessAddBoth, &SIGNAL_CUT, FaultKind::Truncated, 28),
 ];
 
 /// Makes a call, and once more if it ran out of memory, which is then printed.
