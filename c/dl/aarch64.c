@@ -147,7 +147,8 @@ const uint32_t dwcheck_dl_return_of_signal[] = {0xd2801168, 0xd4000001};
 
 /* They return to the system call rt_sigreturn: in the vDSO, for which no row is, or in a C library. */
 bool dwcheck_dl_is_return_of_signal(uint64_t address) {
-    return address % INSTRUCTION == 0 && dwcheck_dl_is_code(address, dwcheck_dl_return_of_signal, sizeof dwcheck_dl_return_of_signal);
+    return address % INSTRUCTION == 0
+           && dwcheck_dl_is_code(address, dwcheck_dl_return_of_signal, sizeof dwcheck_dl_return_of_signal);
 }
 
 /* ---- code */

@@ -30,7 +30,8 @@ static inline bool is_last_of_theirs(unw_cursor_t *cursor) { return (void)cursor
 static const uint8_t cie[20] = {16, 0, 0, 0, 0, 0, 0, 0, 1, 'z', 'R', 0, 1, 0x78, 16, 1, 0x1b, 0x0c, 7, 8};
 #else
 #define NAME(call) "_Uaarch64_" #call
-enum { REGISTERS = UNW_AARCH64_PSTATE + 1, COMPARED = UNW_AARCH64_SP + 1, MOST_SEARCHES = 3, WITHOUT_PLACE = UNW_AARCH64_SP /* of which 1.8 has none */ };
+enum { REGISTERS = UNW_AARCH64_PSTATE + 1, COMPARED = UNW_AARCH64_SP + 1, MOST_SEARCHES = 3 };
+enum { WITHOUT_PLACE = UNW_AARCH64_SP /* of which libunwind 1.8 has none */ };
 static inline uint64_t register_of(const unw_context_t *context, int number) {
     const struct unw_sigcontext *registers = &context->uc_mcontext;
     return number < UNW_AARCH64_SP ? registers->regs[number] : number == UNW_AARCH64_SP ? registers->sp

@@ -17,7 +17,8 @@ int main(int count, char **arguments) {
     uint32_t is_signed;
     if (dwcheck_process_add(&process, &module, &id, &fault) != DWCHECK_DONE) return 1;
     for (int i = 0; scanf("%" SCNx64, &address) == 1; i++) {
-        if (find_row(&process, i % 8 == 0 ? &module : NULL, &header, address, &row, rules, &is_signed)) print_row(address, &row, rules, is_signed);
+        const dwcheck_module *in_place = i % 8 == 0 ? &module : NULL;
+        if (find_row(&process, in_place, &header, address, &row, rules, &is_signed)) print_row(address, &row, rules, is_signed);
         else printf("%" PRIx64 " none\n", address);
     }
     dwcheck_process_close(&process);

@@ -37,7 +37,8 @@ static int go_to(struct frame *frame, uint64_t address, uint64_t stack_pointer, 
 }
 
 /* The registers but for x30 are the caller's. `pushed` bytes are on the stack. */
-static int after_call(struct frame *frame, struct place *places, const struct word_reader *memory, uint64_t pushed, uint32_t guess) {
+static int after_call(struct frame *frame, struct place *places, const struct word_reader *memory, uint64_t pushed,
+                      uint32_t guess) {
     if (!(frame->known >> LR & 1)) return -UNW_EUNSPEC;
     const uint64_t address = dwcheck_dl_unsigned(frame->values[LR]);
     if (!follows_call(memory, address)) return -UNW_ENOINFO;

@@ -37,8 +37,9 @@ static int write_register(pid_t pid, uint64_t place, unw_word_t value) {
 enum { KNOWN = UNW_AARCH64_PSTATE + 1 };
 _Static_assert(sizeof(struct user_regs_struct) == KNOWN * sizeof(uint64_t), "the registers are in the order of their numbers");
 const int _UPT_reg_offset[UNW_REG_LAST + 1] = {
-    AT(0),  AT(1),  AT(2),  AT(3),  AT(4),  AT(5),  AT(6),  AT(7),  AT(8),  AT(9),  AT(10), AT(11), AT(12), AT(13), AT(14), AT(15), AT(16),
-    AT(17), AT(18), AT(19), AT(20), AT(21), AT(22), AT(23), AT(24), AT(25), AT(26), AT(27), AT(28), AT(29), AT(30), AT(31), AT(32), AT(33)};
+    AT(0),  AT(1),  AT(2),  AT(3),  AT(4),  AT(5),  AT(6),  AT(7),  AT(8),  AT(9),  AT(10), AT(11),
+    AT(12), AT(13), AT(14), AT(15), AT(16), AT(17), AT(18), AT(19), AT(20), AT(21), AT(22), AT(23),
+    AT(24), AT(25), AT(26), AT(27), AT(28), AT(29), AT(30), AT(31), AT(32), AT(33)};
 
 /* They are read and written all at once. */
 static int all_registers(enum __ptrace_request request, pid_t pid, struct user_regs_struct *registers) {
