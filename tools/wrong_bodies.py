@@ -261,7 +261,8 @@ def why_refused(function, said):
             return note[3]
     module = function.file[len("src/"):-len(".rt")]
     for line in said:
-        if re.match(rf"(?:\./)?proofs/{module}/(?:\w+/)?\+?{function.name}/\S+: error", line):
+        # (the proofs of a type's method are in the module of the type)
+        if re.match(rf"(?:\./)?proofs/(?:{module}/(?:\w+/)?|\S+/[A-Z]\w*/)\+?{function.name}/\S+: error", line):
             return line
     return None
 
