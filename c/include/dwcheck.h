@@ -199,9 +199,12 @@ uint32_t dwcheck_process_add(dwcheck_process *process, const dwcheck_module *mod
    frame_length, `kind`, which is one of .eh_frame, `room` and the three fields at the end are used. Each `room`
    bounds the table of its own section. Without a range, the module answers for the addresses from the first to the
    last one that either section covers. Returns DONE, or for the same reasons as dwcheck_process_add, in this order:
-   TOO_LONG or BAD_KIND of either; BAD_TARGET of `module`; REFUSED with the first fault of .debug_frame, whose
+   TOO_LONG of either; BAD_KIND of either; BAD_TARGET of `module`; REFUSED with the first fault of .debug_frame, whose
    `within` is DWCHECK_IN_FRAME, or if that section has none, with the fault of .eh_frame, whose `within` is
-   DWCHECK_IN_EH_FRAME; BAD_RANGE; OVERLAPS; NO_ROOM. NO_MEMORY may come in place of any but the first three. */
+   DWCHECK_IN_EH_FRAME; BAD_RANGE; OVERLAPS, which also writes `id`; NO_ROOM. NO_MEMORY may come in place of any but the
+   first three. Only DONE changes the process. A .debug_frame that is refused costs the rows of .eh_frame, too: no
+   records of it can be left out. Compilers for aarch64 that sign return addresses write such sections. Then
+   dwcheck_process_add takes .eh_frame alone. */
 uint32_t dwcheck_process_add_both(dwcheck_process *process, const dwcheck_module *module, const dwcheck_module *eh_frame,
                                   uint64_t *id, dwcheck_fault *fault);
 
@@ -229,8 +232,9 @@ uint32_t dwcheck_module_at(const dwcheck_process *process, uint64_t address, dwc
 /* ---- the section of a module --------------------------------------------------------------------------------------- */
 /* Checks a module's section as dwcheck_process_add does, but adds it nowhere. DONE writes what the section contains to
    `counts`, where exact copies of an FDE count once. Returns DONE, or for the same reasons as dwcheck_process_add
-   TOO_LONG, BAD_KIND, BAD_TARGET, REFUSED or NO_MEMORY. While it checks an .eh_frame section that has no fault and no
-   exact copies of FDEs, it keeps its CIEs, and eight bytes for each FDE. Of `module`, this call and the next two use
+   TOO_LONG, BAD_KIND, BAD_TARGET, REFUSED or NO_MEMORY. Of an .eh_frame section that has no fault and no exact copies
+   of FDEs, and whose FDEs lie within 2 GB of it, the call keeps only the CIEs with their rules, and eight bytes for each
+   FDE, unless bad records are to be left out. Of `module`, this call and the next two use
    `frame`, frame_length, `order`, address_size, `kind`, and the three fields at the end. */
 uint32_t dwcheck_module_check(const dwcheck_module *module, dwcheck_counts *counts, dwcheck_fault *fault);
 
