@@ -56,11 +56,8 @@ dwcheck_state dwcheck_dl_state_of(const dwcheck_block *stack) {
 
 uint64_t dwcheck_dl_unsigned(uint64_t return_address) { return return_address; }
 
-/* The instruction pointer is known too, which rows of procedure linkage tables need. */
 uint32_t dwcheck_dl_cursor_at_place(dwcheck_cursor *cursor, const dwcheck_dl_place *place) {
-    const uint32_t status = dwcheck_cursor_at_place(cursor, place);
-    if (status == DWCHECK_DONE) cursor->contents[RIP] = place->address, cursor->known[RIP] = 1;
-    return status;
+    return dwcheck_cursor_at_place(cursor, place);
 }
 
 uint32_t dwcheck_dl_place_of_cursor(dwcheck_dl_place *place, const dwcheck_cursor *cursor) {

@@ -561,8 +561,8 @@ void dwcheck_walk_frames(dwcheck_rows *rows, uint64_t confirmed, dwcheck_registe
                          size_t blocks_length, dwcheck_register_frame *frames, size_t frames_length, size_t *count,
                          uint32_t *stop);
 
-/* Places a cursor where a walk with registers is: its address, its stage, and the registers of the place; no other is
-   known. Returns DONE; or NO_PLACE if `key` is neither `address` nor `address` plus 1. */
+/* Places a cursor where a walk with registers is: its address, its stage, and the registers of the place; rip has the
+   address, and no other register is known. Returns DONE; or NO_PLACE if `key` is neither `address` nor `address` plus 1. */
 uint32_t dwcheck_cursor_at_place(dwcheck_cursor *cursor, const dwcheck_register_place *place);
 
 /* Makes `place` that of the frame that a cursor is at, so that a walk with registers goes on there. Returns DONE; NONE if

@@ -1,6 +1,6 @@
 //! The C calls that keep rows for walks that recur, and walk with them.
 
-ghost use Rattle.std.specs.Prelude.{◌+◌, ◌^◌, ◌≡◌, ◌≢◌, ◌↔◌, ◌%◌, ◌<◌, ◌≤◌, ◌⊎◌, ℕ, IfSome, List, MatchOption, None, Ok, Option, Err, drop, length, take, false};
+ghost use Rattle.std.specs.Prelude.{◌+◌, ◌^◌, ◌≡◌, ◌≢◌, ◌↔◌, ◌%◌, ◌<◌, ◌≤◌, ◌⊎◌, ℕ, IfSome, List, MatchOption, None, Ok, Option, Err, drop, length, take, false, Some};
 ghost use Rattle.dw_bytes.specs.declared.fault.Fault.{Fault as Why};
 ghost use Rattle.dw_c_types.specs.Faults.{cfault_of};
 ghost use Rattle.dw_c_types.specs.Frames.{stop_number};
@@ -379,12 +379,17 @@ fn registers_of(place: &RegisterPlace) -> RegisterFile
     registers
 }
 
-/// Places a cursor where a walk with registers is, so that it can take a step that the walk can't.
+/// The number of rip.
+const RIP: u16 = 16;
+
+/// Places a cursor where a walk with registers is, so that it can take a step that the walk can't. It
+/// knows rip, too, which has the frame's address: rows of procedure linkage tables need it.
 /// `NO_PLACE` says that `key` is neither `address` nor `address` plus 1.
 #[unsafe(no_mangle)]
 pub extern "C" fn dwcheck_cursor_at_place(cursor: &mut CCursor, place: &RegisterPlace) -> u32
     ensures with { result ≡ DONE → IsWith place.now (place_of cursor.new) }
-    ensures others { result ≡ DONE → (r : ℕ)
+    ensures rip { result ≡ DONE → contents_in cursor.new.registers RETURN_ADDRESS ≡ Some place.now.address }
+    ensures others { result ≡ DONE → (r : ℕ) → r ≢ RETURN_ADDRESS
         → contents_in cursor.new.registers r ≡ register_in place.now r }
     ensures goes { result ≡ DONE → cursor.new.stage ≤ CALLER }
     ensures refused { result ≡ NO_PLACE → (place.now.key ≢ place.now.address)
@@ -396,6 +401,7 @@ pub extern "C" fn dwcheck_cursor_at_place(cursor: &mut CCursor, place: &Register
         return NO_PLACE;
     };
     cursor.registers = registers_of(place);
+    cursor.registers.set(RIP, Some(place.address));
     cursor.address = place.address;
     cursor.stage = stage;
     cursor.reserved = 0;
@@ -463,9 +469,9 @@ pub extern "C" fn dwcheck_place_of_cursor(place: &mut RegisterPlace, cursor: &CC
 
 /// Rows that C keeps are those of its modules, if it gives each module a slot of its own: in rows of
 /// zeros there are none; a fill, by what it promises, puts in one of the slot's module; and a slot
-/// that was forgotten may name another module. Then a walk with the rows of confirmed slots, from a
-/// place at which rip has the address of the frame, has the frames of a walk that looks each of them
-/// up in place.
+/// that was forgotten may name another module. Then a walk with the rows of confirmed slots has the
+/// frames of a walk that looks each of them up in place, if it begins where rip has the address of the
+/// frame, and that address or the one before it is looked up.
 pub fn kept_rows_are_those_of_look_ups()
     ensures zeros { (loaded : ℕ → Module × Header) (rows : List PackedRow)
         → ((i : ℕ) → (entry_at rows i).key ≡ 0) → AreRowsOf (FindsIn loaded) rows }
