@@ -35,10 +35,10 @@
      dwcheck_unwind 7.2 KB and dwcheck_cursor_step 1.6 KB; if a rule is an expression, 3.7, 7.6 and 3.6 KB; and the
      first two take 18 KB if a register of 96 or more is known. dwcheck_row_in and dwcheck_step_in take 53 KB, and
      dwcheck_rows_fill 50 KB where a row isn't compact; else it takes 3.2 KB, as dwcheck_rows_fill_compact does.
-     dwcheck_process_add takes 52 KB, dwcheck_module_check and dwcheck_module_left_out 48 KB, dwcheck_check and
-     dwcheck_report 40 KB, dwcheck_cursor_step_with 21 KB, dwcheck_evaluate 12 KB, dwcheck_process_share 5 KB, and
-     every other call less than 4 KB, but for dwcheck_process_add_both, which isn't measured. A first call may take
-     3 KB more, in a program with libdwcheck.a that isn't linked with -Wl,-z,now.
+     dwcheck_process_add and dwcheck_process_add_both take 52 KB, dwcheck_module_check and dwcheck_module_left_out
+     48 KB, dwcheck_check and dwcheck_report 40 KB, dwcheck_cursor_step_with 21 KB, dwcheck_evaluate 12 KB,
+     dwcheck_process_share 5 KB, and every other call less than 4 KB. A first call may take 3 KB more, in a program
+     with libdwcheck.a that isn't linked with -Wl,-z,now.
    - Fields called `reserved` are set to 0. A later version may give them a meaning.
 
    A call writes its results only if it returns DONE, and `fault` only if it returns REFUSED, unless its comment says
