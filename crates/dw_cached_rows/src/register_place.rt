@@ -55,7 +55,7 @@ pub(crate) enum RegisterStep {
     ReturnUndefined(u64),
     /// Its return address can't be read. Its CFA is this.
     ReturnUnreadable(u64),
-    /// It takes more than these registers to tell.
+    /// It takes more than these registers, and than what is known of memory, to tell.
     Other,
 }
 
@@ -204,7 +204,10 @@ fn caller_of_realigned<M: Memory>(
     })
 }
 
-/// What a row says of a frame whose stack was realigned.
+/// What a row says of a frame whose stack was realigned. Such frames are few: this is a call of its own,
+/// so that walks past the others keep their place in registers.
+#[cold]
+#[inline(never)]
 fn realigned_step<M: Memory>(row: &PackedRow, here: &RegisterPlace, memory: &M) -> RegisterStep
     requires { row.now.form ≡ REALIGNED }
     ensures other { result ≡ steps.Other → LacksRealigned (M.bytes memory.now) row.now here.now }
@@ -255,7 +258,8 @@ pub(crate) fn step_by<M: Memory>(row: &PackedRow, here: &RegisterPlace, memory: 
         return last_step(row, here, memory);
     }
     if form == REALIGNED_FORM {
-        return realigned_step(row, here, memory);
+        let place = *here;
+        return realigned_step(row, &place, memory);
     }
     match register(here, form) {
         Some(base) => step_with_cfa(row, here, base, memory),
