@@ -136,8 +136,7 @@ stop_of_end ends.ReturnUndefined = Some ReturnUndefined
 stop_of_end ends.ReturnUnreadable = Some ReturnUnreadable
 stop_of_end _ = None
 
--- A walk that is here may use an entry that its two registers, and what is known of memory, aren't
--- enough for.
+-- A walk that is here may use an entry that its two registers aren't enough for.
 pub record IsOther (rows : List PackedRow) (mask : ℕ) (memory : ℕ → Option ℕ) (here : StackPlace) : Type 0 where
   pub looked_up : here.key ≢ 0
   pub index : ℕ

@@ -55,7 +55,7 @@ pub(crate) enum RegisterStep {
     ReturnUndefined(u64),
     /// Its return address can't be read. Its CFA is this.
     ReturnUnreadable(u64),
-    /// It takes more than these registers, and than what is known of memory, to tell.
+    /// It takes more than these registers to tell.
     Other,
 }
 
@@ -204,10 +204,7 @@ fn caller_of_realigned<M: Memory>(
     })
 }
 
-/// What a row says of a frame whose stack was realigned. Such frames are few: this is a call of its own,
-/// so that walks past the others keep their place in registers.
-#[cold]
-#[inline(never)]
+/// What a row says of a frame whose stack was realigned.
 fn realigned_step<M: Memory>(row: &PackedRow, here: &RegisterPlace, memory: &M) -> RegisterStep
     requires { row.now.form ≡ REALIGNED }
     ensures other { result ≡ steps.Other → LacksRealigned (M.bytes memory.now) row.now here.now }
@@ -258,8 +255,7 @@ pub(crate) fn step_by<M: Memory>(row: &PackedRow, here: &RegisterPlace, memory: 
         return last_step(row, here, memory);
     }
     if form == REALIGNED_FORM {
-        let place = *here;
-        return realigned_step(row, &place, memory);
+        return realigned_step(row, here, memory);
     }
     match register(here, form) {
         Some(base) => step_with_cfa(row, here, base, memory),

@@ -49,7 +49,7 @@ pub(crate) enum Step {
     ReturnUndefined,
     /// Its return address can't be read.
     ReturnUnreadable,
-    /// Two registers and what is known of memory aren't enough to tell.
+    /// Two registers aren't enough to tell.
     Other,
 }
 
@@ -187,10 +187,7 @@ fn step_by_rbp<M: Memory>(row: &PackedRow, here: &StackPlace, base: u64, memory:
     }
 }
 
-/// What a row says of a frame whose stack was realigned. Such frames are few: this is a call of its own,
-/// so that walks past the others keep their place in registers.
-#[cold]
-#[inline(never)]
+/// What a row says of a frame whose stack was realigned.
 fn realigned_step<M: Memory>(row: &PackedRow, here: &StackPlace, memory: &M) -> Step
     requires { row.now.form ≡ REALIGNED }
     ensures other { result ≡ steps.Other → (base : ℕ) → AreSmall row.now
@@ -236,10 +233,7 @@ pub(crate) fn step_by<M: Memory>(row: &PackedRow, here: &StackPlace, memory: &M)
             None => Step::Other,
         },
         LAST_BY_RSP => last_step(row, here, memory),
-        REALIGNED_FORM => {
-            let place = *here;
-            realigned_step(row, &place, memory)
-        }
+        REALIGNED_FORM => realigned_step(row, here, memory),
         _ => Step::Other,
     }
 }

@@ -1,5 +1,5 @@
 use Rattle.std.proofs.Common.{◌≡◌, ◌∙◌, ap, sym}
-use Rattle.dw_cached_rows.proofs.Steps.{direct-row, usual-of}
+use Rattle.dw_cached_rows.proofs.Steps.{direct-row, realigned-of, usual-of}
 use Rattle.dw_cached_rows.proofs.stack_place.step_by.Goals as goal
 
 pub returns-in-7-clause-row : goal.returns-in-7-clause-row
