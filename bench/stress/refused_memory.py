@@ -64,7 +64,7 @@ RUNS = [
 CALLS = [
     "Operations", "Recheck", "CheckCie", "CheckFde", "CheckFrame", "CheckLists", "Check", "Compile", "CompileMany",
     "Backtrace", "BacktraceBySection", "BacktraceByTable", "ProcessAdd", "ProcessShare", "CheckEhFrame", "SignalFrames",
-    "ProcessAddEhFrame", "Report", "ReportWithoutLists", "Request", "Run", "Load", "checks",
+    "ProcessAddEhFrame", "ProcessAddBoth", "Report", "ReportWithoutLists", "Request", "Run", "Load", "checks",
 ]
 WANT = "dwcheck: out of memory\n"
 WITHOUT = "done without"
