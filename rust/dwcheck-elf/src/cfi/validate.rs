@@ -10,6 +10,8 @@ mod gimli_rows;
 use crate::cfi::frames::Name;
 use crate::cfi::row::Row;
 use dwcheck_types::cursor::Cursor;
+use gimli::constants::DW_CFA_GNU_negative_offset_extended;
+use gimli::Error::UnknownCallFrameInstruction;
 use std::fmt;
 
 pub(crate) use comparable::comparable_bytes;
@@ -30,7 +32,7 @@ pub struct Difference {
 /// What differs between a CIE or FDE as gimli reads it, and as the library does.
 #[derive(Clone, Debug, PartialEq, Eq)]
 pub enum What {
-    /// gimli can't read the CIE or FDE.
+    /// gimli can't read the CIE or FDE, or one of its instructions.
     Unreadable(String),
     /// The library has no CIE or FDE there.
     Missing,
@@ -120,6 +122,10 @@ pub fn compare_rows<'a, 'b>(
         match (&one, &other) {
             (Ok(true), Ok(true)) if is_same_row(left, right) => number += 1,
             (Ok(false), Ok(false)) => return Ok(number),
+            // It can't be rewritten for gimli: with DW_CFA_offset_extended_sf it may take more bytes.
+            (Err(RowError::Gimli(error @ UnknownCallFrameInstruction(DW_CFA_GNU_negative_offset_extended))), _) => {
+                return Err(What::Unreadable(error.to_string()));
+            }
             _ => {
                 return Err(What::Row {
                     number,
