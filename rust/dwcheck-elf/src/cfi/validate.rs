@@ -10,7 +10,7 @@ mod gimli_rows;
 use crate::cfi::frames::Name;
 use crate::cfi::row::Row;
 use dwcheck_types::cursor::Cursor;
-use gimli::constants::DW_CFA_GNU_negative_offset_extended;
+use gimli::constants as dw;
 use gimli::Error::UnknownCallFrameInstruction;
 use std::fmt;
 
@@ -123,7 +123,7 @@ pub fn compare_rows<'a, 'b>(
             (Ok(true), Ok(true)) if is_same_row(left, right) => number += 1,
             (Ok(false), Ok(false)) => return Ok(number),
             // It can't be rewritten for gimli: with DW_CFA_offset_extended_sf it may take more bytes.
-            (Err(RowError::Gimli(error @ UnknownCallFrameInstruction(DW_CFA_GNU_negative_offset_extended))), _) => {
+            (Err(RowError::Gimli(error @ UnknownCallFrameInstruction(dw::DW_CFA_GNU_negative_offset_extended))), _) => {
                 return Err(What::Unreadable(error.to_string()));
             }
             _ => {
