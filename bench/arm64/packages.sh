@@ -4,7 +4,7 @@
 # FOLDER (build/arm64-packages) keeps the packages that packages.txt names, 1.2 GB. The rows are those that the library on this
 # machine reads, from sections added to a process and in place (rows_beside.c); the gate compares those of some libraries with
 # the library for aarch64. Of a file whose section is refused, bad records are left out, and listed; the rows of all others are
-# compared. Needs what `make` has built, and some 8 minutes of a processor: a look-up in place reads an FDE from its beginning,
+# compared. Needs what `make` has built, and some 3 minutes of a processor: a look-up in place reads an FDE from its beginning,
 # and cc1 has FDEs with thousands of rows. Prints a line for each file with rows that differ, and how many rows of how many
 # files there are; the status is 1 if a row differs.
 set -eu
