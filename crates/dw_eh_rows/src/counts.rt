@@ -17,18 +17,21 @@ use dw_rows::CheckedFrame;
 use dw_rules::UnwindContext;
 use std::alloc::Global;
 
-/// How much a checked section contains. Exact copies of an FDE count once.
+/// How much a checked section contains.
 #[derive(Clone, Copy, Debug, PartialEq, Eq)]
 pub struct SectionCounts {
+    /// How many CIEs it has.
     pub cies: usize,
+    /// How many FDEs it has. Exact copies of an FDE count once.
     pub fdes: usize,
-    /// The rows of all FDEs.
+    /// How many rows these FDEs have.
     pub rows: u128,
-    /// The expressions of all programs.
+    /// How many expressions the programs of its CIEs and of these FDEs have.
     pub expressions: usize,
 }
 
-/// Addresses that are written as four bytes are at most this far from their place in the section.
+/// An address that is encoded in four signed bytes is at most this far from its place in the
+/// section. So a tally counts addresses from this far before the section.
 const REACH: u64 = 1 << 31;
 
 /// Reads the record at the offset `at` of a section, and counts it. Returns the offset after it, or

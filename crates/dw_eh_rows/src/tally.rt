@@ -42,8 +42,8 @@ pub struct Tally<'a> {
     pub expressions: usize,
 }
 
-/// Linkers write most FDEs of at least this many bytes. There is room for the addresses of one FDE for
-/// each `SHORT_FDE` bytes of a section, so they rarely have to grow.
+/// Few FDEs are shorter than this many bytes. A tally has room for the addresses of one FDE for each
+/// `SHORT_FDE` bytes of a section, so that it rarely has to grow.
 const SHORT_FDE: usize = 32;
 
 /// Nothing is counted yet. `size` is the section's size, and `base` an address below those of the FDEs.
@@ -85,8 +85,8 @@ fn is_good_cie<'a>(
     }
 }
 
-/// Counts a CIE. `false` if its program has a fault, or a number is too large. Then nothing is said of
-/// the tally.
+/// Counts a CIE. `false` if its program has a fault, or a number is too large. The tally is of no use
+/// then.
 pub fn count_cie<'a>(
     tally: &mut Tally<'a>,
     context: &mut UnwindContext,
@@ -210,8 +210,8 @@ fn add_fde(tally: &mut Tally<'_>, range: ShortRange, rows: u64) -> Result<bool, 
     Ok(true)
 }
 
-/// Counts an FDE. `false` if its CIE isn't one of those that were counted, its program has a fault, or a
-/// number is too large. Then nothing is said of the tally.
+/// Counts an FDE. `false` if its CIE isn't one of those that were counted, its program has a fault, a
+/// number is too large, or its addresses are too far from the base. The tally is of no use then.
 #[inline(always)]
 pub fn count_fde<'a>(
     tally: &mut Tally<'a>,

@@ -28,7 +28,7 @@ use std::alloc::Global;
 use std::marker::Model;
 
 /// The modules of a process: its executable and its libraries. Each module has a compiled table, or
-/// one of each of its two sections, a load address, and a range of addresses as loaded, which no
+/// two, one for each of its sections; a load address; and a range of addresses as loaded, which no
 /// other module shares. The module of an address is the one whose range contains it, and is found in
 /// O(log n) steps among n modules.
 ///

@@ -129,22 +129,7 @@ fn row_number(rows: u128) -> u64
     }
 }
 
-/// Counts what a checked frame section contains.
-pub(crate) fn frame_counted(frame: &CheckedFrame<'_>) -> CCounts
-    ensures { result ≡ frame_counts frame.now }
-{
-    CCounts {
-        cies: frame.cies().len() as u64,
-        fdes: frame.fdes().len() as u64,
-        rows: row_number(frame.row_count()),
-        frame_expressions: frame.expressions().len() as u64,
-        tables: 0,
-        lists: 0,
-        list_expressions: 0,
-    }
-}
-
-/// How much a checked `.eh_frame` section contains, as C gets it.
+/// How much a checked frame section contains, as C gets it.
 pub(crate) fn counts_shown(counts: &SectionCounts) -> CCounts
     ensures { (frame : FrameSection) → AreCountsOf frame counts.now → result ≡ frame_counts frame }
 {
@@ -157,6 +142,13 @@ pub(crate) fn counts_shown(counts: &SectionCounts) -> CCounts
         lists: 0,
         list_expressions: 0,
     }
+}
+
+/// Counts what a checked frame section contains.
+pub(crate) fn frame_counted(frame: &CheckedFrame<'_>) -> CCounts
+    ensures { result ≡ frame_counts frame.now }
+{
+    counts_shown(&dw_eh_rows::counts_of(frame))
 }
 
 /// Counts what two checked sections contain.
