@@ -4,3 +4,5 @@ pub mod FilledTables
 pub mod CompiledTables
 pub mod TableEntries
 pub mod RuleSets
+pub mod NumberedPrograms
+pub mod NumberedStates

@@ -7,3 +7,5 @@ pub mod UnwindTables
 
 -- all rows of a section in order of address, as a compiled table stores them
 pub mod CompiledTable
+-- programs that run on rule sets with numbers
+pub mod NumberedPrograms

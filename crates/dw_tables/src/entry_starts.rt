@@ -1,9 +1,10 @@
 //! A compact list of the addresses at which the entries of a compiled table begin.
 
-ghost use Rattle.std.specs.Prelude.{◌≡◌, ◌+◌, ◌<◌, ◌≤◌, [], ◌∷◌, ◌++◌, IfSome, IsTrue, MatchResult, length, slice_index_or, ℕ};
+ghost use Rattle.std.specs.Prelude.{◌≡◌, ◌+◌, ◌<◌, ◌≤◌, [], ◌∷◌, ◌++◌, IfOk, IfSome, IsTrue, MatchResult, length, slice_index_or, ℕ};
 ghost use Rattle.std.specs.Bool.{OnTrue};
 ghost use Rattle.dw_tables.specs.CompiledTable.{AreAround, IsBracketed};
 
+use crate::spare_capacity::cut_spare;
 use std::alloc::{AllocError, Global};
 use std::marker::Model;
 
@@ -44,15 +45,15 @@ fn near_offset(base: u64, may_be_near: bool, start: u64) -> Option<u32>
 }
 
 impl Starts {
-    /// An empty list.
-    pub fn new(alloc: Global, base: u64) -> Self
-        ensures { result ≡ [] }
+    /// An empty list, with room for `count` near addresses.
+    pub fn with_capacity(alloc: Global, base: u64, count: usize) -> Result<Self, AllocError>
+        ensures { IfOk result (λ starts. starts ≡ []) }
     {
-        Starts {
+        Ok(Starts {
             base,
-            near: Vec::new(alloc),
+            near: Vec::with_capacity(alloc, count)?,
             far: Vec::new(alloc),
-        }
+        })
     }
 
     /// Appends an address. If memory can't be allocated, the list is unchanged.
@@ -82,15 +83,13 @@ impl Starts {
         self.far.clear();
     }
 
-    /// Copies the list into new arrays, so that no capacity is spare. The contract doesn't say so:
-    /// it speaks only of the elements.
+    /// Copies the list into new arrays where much capacity is spare. The contract doesn't say so: it
+    /// speaks only of the elements.
     pub fn cut(&mut self, alloc: Global) -> Result<(), AllocError>
         ensures { self.new ≡ self.old }
     {
-        let near = Vec::from_slice(alloc, self.near.as_slice())?;
-        let far = Vec::from_slice(alloc, self.far.as_slice())?;
-        self.near = near;
-        self.far = far;
+        cut_spare(alloc, &mut self.near)?;
+        cut_spare(alloc, &mut self.far)?;
         Ok(())
     }
 

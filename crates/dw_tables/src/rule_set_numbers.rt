@@ -1,7 +1,8 @@
 //! A compact list of rule set numbers, one for each entry of a compiled table.
 
-ghost use Rattle.std.specs.Prelude.{◌≡◌, ◌<◌, [], ◌∷◌, ◌++◌, IsTrue, IfSome, MatchResult, length, slice_index_or, ℕ};
+ghost use Rattle.std.specs.Prelude.{◌≡◌, ◌<◌, [], ◌∷◌, ◌++◌, IsTrue, IfOk, IfSome, MatchResult, length, slice_index_or, ℕ};
 
+use crate::spare_capacity::cut_spare;
 use std::alloc::{AllocError, Global};
 use std::marker::Model;
 
@@ -33,14 +34,14 @@ fn narrow_number(may_be_narrow: bool, number: u32) -> Option<u16>
 }
 
 impl SetNumbers {
-    /// An empty list.
-    pub fn new(alloc: Global) -> Self
-        ensures { result ≡ [] }
+    /// An empty list, with room for `count` numbers of two bytes.
+    pub fn with_capacity(alloc: Global, count: usize) -> Result<Self, AllocError>
+        ensures { IfOk result (λ numbers. numbers ≡ []) }
     {
-        SetNumbers {
-            narrow: Vec::new(alloc),
+        Ok(SetNumbers {
+            narrow: Vec::with_capacity(alloc, count)?,
             wide: Vec::new(alloc),
-        }
+        })
     }
 
     /// Appends a number. If memory can't be allocated, the list is unchanged.
@@ -70,15 +71,13 @@ impl SetNumbers {
         self.wide.clear();
     }
 
-    /// Copies the list into new arrays, so that no capacity is spare. The contract doesn't say so:
-    /// it speaks only of the elements.
+    /// Copies the list into new arrays where much capacity is spare. The contract doesn't say so: it
+    /// speaks only of the elements.
     pub fn cut(&mut self, alloc: Global) -> Result<(), AllocError>
         ensures { self.new ≡ self.old }
     {
-        let narrow = Vec::from_slice(alloc, self.narrow.as_slice())?;
-        let wide = Vec::from_slice(alloc, self.wide.as_slice())?;
-        self.narrow = narrow;
-        self.wide = wide;
+        cut_spare(alloc, &mut self.narrow)?;
+        cut_spare(alloc, &mut self.wide)?;
         Ok(())
     }
 

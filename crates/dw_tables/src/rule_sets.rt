@@ -1,13 +1,15 @@
 //! A list of rule sets, each with its return address register.
 
-ghost use Rattle.std.specs.Prelude.{◌≡◌, ◌<◌, ◌≤◌, [], ◌∷◌, ◌++◌, IfOk, length, Some, slice_get};
+ghost use Rattle.std.specs.Prelude.{◌≡◌, ◌<◌, ◌≤◌, [], ◌∷◌, ◌++◌, MatchResult, length, Some, slice_get};
 ghost use Rattle.std.specs.Bool.{OnTrue};
 ghost use Rattle.std.specs.Option.{option_map};
 ghost use Rattle.dw_rules.specs.Rules.{IsTable};
 ghost use Rattle.dw_rules.specs.SavedRules.{ArePlain};
 ghost use Rattle.dw_rules.specs.Views.{stored_cfa_of, entries_of};
+ghost use Rattle.dw_tables.specs.CompiledTable.{set_numbered};
+ghost use Rattle.dw_tables.specs.NumberedPrograms.{rules_at, with_rules};
 
-use dw_rules::{InitialRules, LentRules, MAX_RULES, RuleSet, StoredCfa};
+use dw_rules::{InitialRules, LentRules, MAX_RULES, RuleSet, StoredCfa, UnwindState};
 use std::alloc::{AllocError, Global};
 use std::marker::Model;
 
@@ -44,17 +46,39 @@ impl RuleSets {
     /// Appends a rule set with its return address register. If memory can't be allocated, the list
     /// is unchanged.
     pub fn push(&mut self, rules: &RuleSet, register: u16) -> Result<(), AllocError>
-        ensures { IfOk result (λ _. self.new
-            ≡ self.old ++ record { rules = rules.now; register = register } ∷ []) }
+        ensures { MatchResult result
+            (λ _. self.new ≡ self.old ++ record { rules = rules.now; register = register } ∷ [])
+            (λ _. self.new ≡ self.old) }
     {
+        let count = self.registers.len();
         self.registers.push(register)?;
         match self.rules.push(rules) {
             Ok(()) => Ok(()),
             Err(_) => {
-                let _ = self.registers.pop();
+                self.registers.truncate(count);
                 Err(AllocError)
             }
         }
+    }
+
+    /// Makes `state` that of a program that began with the rules at index `first`, and has the rules
+    /// at index `from` in force.
+    pub fn load(&self, first: usize, from: usize, state: &mut UnwindState)
+        requires first { first < length self.now }
+        requires from { from < length self.now }
+        ensures { state.new ≡ with_rules (rules_at self.now first) (rules_at self.now from) }
+    {
+        state.set_initial_rules(&self.rules, from);
+        state.begin(0);
+        state.set_initial_rules(&self.rules, first);
+    }
+
+    /// The return address register of the rule set at index `place`.
+    pub fn register_at(&self, place: usize) -> u16
+        requires { place < length self.now }
+        ensures { (set_numbered self.now place).register ≡ result }
+    {
+        self.registers[place]
     }
 
     /// Copies the list into new arrays, so that no capacity is spare. The contract doesn't say so:

@@ -9,48 +9,44 @@ ghost use Rattle.dw_tables.specs.UnwindTables.{has, fde_bytes, all_rows_bytes};
 ghost use Rattle.dw_tables.specs.CompiledTable.{IsPushed, IsTableUpTo, IsClosedAt, IsBegunAt, IsFilled, ArePlacedRows, AreEntries, rows_to};
 ghost use Rattle.dw_tables.specs.CompiledTable.{IsSpanOf, LendsFound, found_with_expressions, LacksRoom, entry_bytes, stored_bytes};
 
-use crate::rule_numbers::RuleNumbers;
+use crate::chosen_sets::ROW_ROOM;
+use crate::numbered_program::NumberedProgram;
 use crate::rule_sets::RuleSets;
 use crate::table_entries::{EntrySpan, TableEntries, TableEntry};
 use crate::table_room::{Unmade, less_room};
 use dw_frame::FrameDescriptionEntry;
-use dw_rows::{CheckedFrame, begin_rows, next_range};
-use dw_rules::{RowExpressions, RuleSet, UnwindContext, UnwindRow};
+use dw_rows::CheckedFrame;
+use dw_rules::{RowExpressions, UnwindRow, UnwindState};
 use std::alloc::Global;
 use std::marker::Model;
-
-/// How many bytes of the room an entry uses up, not counting its rule set. Its start, the number of
-/// its rule set and a count in `Blocks` take at most this.
-pub const ROW_ROOM: usize = 16;
-
-const _: () = prove!(size_of::<u64>() + size_of::<u32>() + size_of::<u32>() <= ROW_ROOM);
 
 /// A compiled table while it is being filled.
 #[derive(Drop)]
 pub struct GrowingTable {
     pub entries: TableEntries,
-    pub numbers: RuleNumbers,
+    pub numbers: NumberedProgram,
     /// The address after the last one that the rows so far cover.
     pub end: u64,
 }
 
 impl GrowingTable {
-    /// Appends an entry: from the address `start` on, the rules `rules` hold, and the return
-    /// address register is `register`.
-    fn push(&mut self, start: u64, rules: &RuleSet, register: u16) -> Result<(), Unmade>
+    /// Appends an entry: from the address `start` on, the rules that are in force in the program
+    /// hold, and the return address register is the program's.
+    fn push_row(&mut self, start: u64) -> Result<(), Unmade>
         ensures pushed { IfOk result (λ _. IsPushed self.old.entries self.old.numbers.sets start
-            (record { rules = rules.now; register = register })
+            (record { rules = self.old.numbers.state.current; register = self.old.numbers.register })
             self.new.entries self.new.numbers.sets) }
         ensures stored { IfOk result (λ _.
             stored_bytes self.new.entries self.new.numbers.sets + self.new.numbers.room
             ≤ stored_bytes self.old.entries self.old.numbers.sets + self.old.numbers.room) }
         ensures spent { IfOk result (λ _. self.old.numbers.room
-            ≤ self.new.numbers.room + entry_bytes rules.now) }
-        ensures short { IfErr result
-            (λ why. LacksRoom why self.old.numbers.room (entry_bytes rules.now)) }
+            ≤ self.new.numbers.room + entry_bytes self.old.numbers.state.current) }
+        ensures short { IfErr result (λ why.
+            LacksRoom why self.old.numbers.room (entry_bytes self.old.numbers.state.current)) }
+        ensures state { self.new.numbers.state ≡ self.old.numbers.state }
+        ensures register { self.new.numbers.register ≡ self.old.numbers.register }
     {
-        self.numbers.room = less_room(self.numbers.room, ROW_ROOM)?;
-        let set = self.numbers.number_of(rules, register)?;
+        let set = self.numbers.choose_current()?;
         self.entries.push(TableEntry { start, set })?;
         Ok(())
     }
@@ -69,8 +65,11 @@ impl GrowingTable {
         if self.entries.count() == 0 {
             return Ok(());
         }
-        let end = self.end;
-        self.push(end, &RuleSet::new(), 0)?;
+        let set = self.numbers.choose_nothing()?;
+        self.entries.push(TableEntry {
+            start: self.end,
+            set,
+        })?;
         Ok(())
     }
 
@@ -98,7 +97,7 @@ impl GrowingTable {
 fn fill(
     frame: &CheckedFrame<'_>,
     fde: &FrameDescriptionEntry<'_>,
-    context: &mut UnwindContext,
+    spare: &mut UnwindState,
     table: &mut GrowingTable,
     near: &mut usize,
 ) -> Result<(), Unmade>
@@ -119,14 +118,35 @@ fn fill(
         (fde_bytes frame.now (fde_of fde.now))) }
 {
     table.begin_at(fde.initial_location)?;
-    let cie = frame.begin_with_cie(&mut context.state, near, fde);
-    let mut instructions = begin_rows(context, fde);
+    let cie = frame.begin_with_cie(spare, near, fde);
+    table.numbers.begin(
+        spare.initial_rules(),
+        fde.initial_location,
+        cie.return_address_register,
+    )?;
+    let mut instructions = fde.program.instructions();
     let limit = fde.initial_location + fde.address_range;
-    while let Some((start, _)) = next_range(context, &mut instructions, &cie, limit) {
-        table.push(start, context.state.rules(), cie.return_address_register)?;
+    while let Some((start, _)) = table
+        .numbers
+        .next_row(&mut instructions, &cie, limit, spare)?
+    {
+        table.push_row(start)?;
     }
     table.end = limit;
     Ok(())
+}
+
+/// For how many entries there is room in a new table: one for each row, and one for the end of each
+/// FDE, if the table may take that much. It affects only time.
+fn most_entries(frame: &CheckedFrame<'_>, room: usize) -> usize {
+    let most = room / ROW_ROOM;
+    match usize::try_from(frame.row_count()) {
+        Ok(rows) => rows
+            .saturating_add(frame.fdes().len())
+            .saturating_add(1)
+            .min(most),
+        Err(_) => most,
+    }
 }
 
 /// Fills a table with the rows of all FDEs, in order of address.
@@ -143,17 +163,17 @@ fn fill_all(alloc: Global, frame: &CheckedFrame<'_>, room: usize) -> Result<Grow
         None => 0,
     };
     let mut table = GrowingTable {
-        entries: TableEntries::new(alloc, base),
-        numbers: RuleNumbers::new(alloc, room)?,
+        entries: TableEntries::with_capacity(alloc, base, most_entries(frame, room))?,
+        numbers: NumberedProgram::new(alloc, room, frame.fdes().len())?,
         end: 0,
     };
-    let mut context = UnwindContext::new();
+    let mut spare = UnwindState::new();
     let mut near = 0;
     let fdes = frame.fdes();
     let index = frame.index();
     for entry in index {
         let fde = fdes[entry.place];
-        fill(frame, &fde, &mut context, &mut table, &mut near)?;
+        fill(frame, &fde, &mut spare, &mut table, &mut near)?;
     }
     table.close()?;
     table.entries.finish(alloc)?;

@@ -269,22 +269,21 @@ fn count_up_to(starts: &Starts, address: u64) -> usize
 }
 
 impl TableEntries {
-    /// An empty list.
-    pub fn new(alloc: Global, base: u64) -> Self
-        ensures { result ≡ [] }
+    /// An empty list, with room for `count` entries.
+    pub fn with_capacity(alloc: Global, base: u64, count: usize) -> Result<Self, AllocError>
+        ensures { IfOk result (λ entries. entries ≡ []) }
     {
-        TableEntries {
-            starts: Starts::new(alloc, base),
-            sets: SetNumbers::new(alloc),
+        Ok(TableEntries {
+            starts: Starts::with_capacity(alloc, base, count)?,
+            sets: SetNumbers::with_capacity(alloc, count)?,
             blocks: Blocks {
                 shift: 0,
                 counts: Vec::new(alloc),
             },
-        }
+        })
     }
 
-    /// Copies the entries into new arrays (`Starts::cut`), and makes the blocks that speed up
-    /// look-ups.
+    /// Gives up spare capacity (`Starts::cut`), and makes the blocks that speed up look-ups.
     pub fn finish(&mut self, alloc: Global) -> Result<(), AllocError>
         ensures { self.new ≡ self.old }
     {

@@ -1,10 +1,12 @@
-use Rattle.std.proofs.Common.{◌≡◌, ◌+◌, ◌++◌, ap, subst, ◌∙◌, arith}
+use Rattle.std.proofs.Common.{◌≡◌, ◌+◌, ◌++◌, List, Some, None, refl, sym, ap, subst, ◌∙◌, arith}
 use Rattle.dw_frame.specs.Views.{cie_of, fde_of}
 use Rattle.dw_rows.specs.UnwindRows.{rows_of}
-use Rattle.dw_rules.specs.ProgramState.{ProgramState}
+use Rattle.dw_rules.specs.ProgramState.{ProgramState, IsLeftBy}
 use Rattle.dw_rules.specs.RuleSet.{StoredRules}
-use Rattle.dw_rows.specs.RowCursors.{cursor_at, RowCursor, BeginsRows}
-use Rattle.dw_tables.specs.CompiledTable.{returning, rows_to, entry_bytes, IsPushed, LacksRoom}
+use Rattle.dw_rows.specs.RowCursors.{cursor_at, RowCursor, BeginsRows, GivesNextRow}
+use Rattle.dw_rows.proofs.rows.Coming.{cursor-begins}
+use Rattle.dw_tables.specs.CompiledTable.{StoredSet, returning, rows_to, entry_bytes, stored_bytes, IsFilling, IsFilled, IsPushed, IsTableUpTo, LacksRoom}
+use Rattle.dw_tables.specs.NumberedPrograms.{NumberedState}
 use Rattle.dw_tables.specs.UnwindTables.{fde_bytes}
 use Rattle.dw_tables.proofs.TableRows.{filling-begins, filling-on, filling-table, filling-lends, filling-end, filling-all, table-further, filled}
 use Rattle.dw_tables.proofs.TableRoom.{cost, cost-on, cost-next, cost-all, cost-both, fde-cost, lacks-more, still-lacks}
@@ -16,23 +18,34 @@ loop-start-init c =
     let fde = fde_of c.args.fde.now in
     let limit = c.args.fde.now.initial_location + c.args.fde.now.address_range in
     let es = c.args.frame.now.expressions in
-    let w : RowCursor =
-    cursor_at cie limit c.begin_rows-instructions.new.context c.begin_rows-instructions.result in
-    let begins : BeginsRows cie fde w = c.begin_rows-instructions.ensures cie c.begin_with_cie-cie.ensures.left c.begin_with_cie-cie.ensures.fde_program in
-    let begun = c.in_ok-begin_at.ensures.begun in
+    let first = c.initial_rules.result.now in
+    let w : RowCursor = cursor_at cie limit c.begin.new.self.state c.instructions-instructions.result in
+    let left : IsLeftBy cie first = subst (λ (k : StoredRules). IsLeftBy cie k) (sym c.initial_rules.ensures) c.begin_with_cie-cie.ensures.left in
+    let begun = c.in_ok-begin.ensures.begun in
+    let begins : BeginsRows cie fde w = cursor-begins cie fde w first refl left c.begin_with_cie-cie.ensures.fde_program refl
+    (ap (λ (v : NumberedState). v.state) begun) c.instructions-instructions.ensures in
+    let ready = c.in_ok-begin_at.ensures.begun in
     let rows = rows_to c.args.table.now.numbers.sets c.args.table.now.entries c.args.table.now.end in
     let new = c.begin_at.new.self.entries in
-    let sets = c.begin_at.new.self.numbers.sets in
+    let before = c.begin_at.new.self.numbers.sets in
+    let sets = c.begin.new.self.sets in
+    let same : sets ≡ before = ap (λ (v : NumberedState). v.sets) begun in
+    let room : c.begin.new.self.room ≡ c.begin_at.new.self.numbers.room = ap (λ (v : NumberedState). v.room) begun in
+    let told : rows_to sets new fde.initial_location ≡ rows =
+    ap (λ (l : List StoredSet). rows_to l new fde.initial_location) same ∙ ready.rows es c.requires.table in
     record {
-      filling = filling-begins cie fde rows w new sets begins (begun.rows es c.requires.table);
-      table = table-further es fde.initial_location w.context.location new sets (begun.table es c.requires.table c.requires.order)
-          (omega (arith, begins.location));
+      filling = filling-begins cie fde rows w new sets begins told;
+      table = table-further es fde.initial_location w.context.location new sets
+          (subst (λ (l : List StoredSet). IsTableUpTo es fde.initial_location new l) (sym same)
+          (ready.table es c.requires.table c.requires.order)) (omega (arith, begins.location));
       spent = omega (
         arith,
+        room,
         c.in_ok-begin_at.ensures.spent,
-        ap cost (ap (λ n. rows_to sets new n) begins.location ∙ begun.rows es c.requires.table),
+        ap cost (ap (λ n. rows_to sets new n) begins.location ∙ told),
       );
-      stored = c.in_ok-begin_at.ensures.stored;
+      register = ap (λ (v : NumberedState). v.register) begun;
+      stored = omega (arith, room, ap (λ (l : List StoredSet). stored_bytes new l) same, c.in_ok-begin_at.ensures.stored);
     }
 
 pub loop-start-preserved : goal.loop-start-preserved
@@ -41,38 +54,44 @@ loop-start-preserved c =
     let fde = fde_of c.args.fde.now in
     let limit = c.args.fde.now.initial_location + c.args.fde.now.address_range in
     let es = c.args.frame.now.expressions in
-    let w : RowCursor =
-    cursor_at cie limit c.loop-start.context c.loop-start.instructions in
-    let new : RowCursor =
-    cursor_at cie limit c.next_range.new.context c.next_range.new.instructions in
-    let rows = rows_to c.args.table.now.numbers.sets c.args.table.now.entries c.args.table.now.end ++ returning cie.return_address_register (rows_of cie fde) in
+    let w : RowCursor = cursor_at cie limit c.loop-start.table.numbers.state c.loop-start.instructions in
+    let new : RowCursor = cursor_at cie limit c.next_row.new.self.state c.next_row.new.instructions in
+    let rows = rows_to c.args.table.now.numbers.sets c.args.table.now.entries c.args.table.now.end
+    ++ returning cie.return_address_register (rows_of cie fde) in
+    let start = c.in-Some.start in
+    let end = c.in-Some.field-0-1 in
     let entries = c.loop-start.table.entries in
     let sets = c.loop-start.table.numbers.sets in
-    let more = c.push.new.self.entries in
-    let more_sets = c.push.new.self.numbers.sets in
+    let more = c.push_row.new.self.entries in
+    let more_sets = c.push_row.new.self.numbers.sets in
     let h = c.loop-start.invariant in
-    let is : c.rules.result.now ≡ c.next_range.new.context.current =
-    c.rules.ensures ∙ ap (λ (m : ProgramState). m.current) c.context-in-loop-start.view_is in
     let r = cie.return_address_register in
-    let pushed : IsPushed entries sets c.in-Some.start (record { rules = c.next_range.new.context.current; register = r }) more more_sets =
-    subst (λ (k : StoredRules). IsPushed entries sets c.in-Some.start (record { rules = k; register = r }) more more_sets) is
-    c.in_ok-push.ensures.pushed in
-    let lends = filling-lends es cie fde rows w new entries sets c.in-Some.start c.in-Some.field-0-1 h.filling c.in-Some.ensures
-    c.begin_with_cie-cie.ensures.lends in
+    let next : GivesNextRow w (Some (start, end)) new = rw c.in-Some.is at c.in_ok-start.ensures.next in
+    let same : c.next_row.new.self.sets ≡ sets = ap (λ (v : NumberedState). v.sets) c.in_ok-start.ensures.rest in
+    let room : c.next_row.new.self.room ≡ c.loop-start.table.numbers.room = ap (λ (v : NumberedState). v.room) c.in_ok-start.ensures.rest in
+    let register : c.next_row.new.self.register ≡ r = ap (λ (v : NumberedState). v.register) c.in_ok-start.ensures.rest ∙ h.register in
+    let pushed : IsPushed entries sets start (record { rules = new.context.current; register = r }) more more_sets =
+    subst (λ (l : List StoredSet). IsPushed entries l start (record { rules = new.context.current; register = r }) more more_sets) same
+    (subst (λ q. IsPushed entries c.next_row.new.self.sets start (record { rules = new.context.current; register = q }) more more_sets)
+    register c.in_ok-push_row.ensures.pushed) in
+    let lends = filling-lends es cie fde rows w new entries sets start end h.filling next c.begin_with_cie-cie.ensures.lends in
+    let state : c.push_row.new.self.numbers.state ≡ new.context = c.in_ok-push_row.ensures.state in
+    let at : c.push_row.new.self.numbers.state.location ≡ new.context.location = ap (λ (m : ProgramState). m.location) state in
     record {
-      filling = filling-on es cie fde rows w new entries more sets more_sets c.in-Some.start c.in-Some.field-0-1 h.filling
-          c.in-Some.ensures h.table pushed;
-      table = filling-table es cie fde rows w new entries more sets more_sets c.in-Some.start c.in-Some.field-0-1 h.filling
-          c.in-Some.ensures h.table pushed lends;
+      filling = subst (λ (m : ProgramState). IsFilling cie fde rows (cursor_at cie limit m c.next_row.new.instructions) more more_sets)
+          (sym state) (filling-on es cie fde rows w new entries more sets more_sets start end h.filling next h.table pushed);
+      table = subst (λ n. IsTableUpTo es n more more_sets) (sym at)
+          (filling-table es cie fde rows w new entries more sets more_sets start end h.filling next h.table pushed lends);
       spent = omega (
         arith,
         h.spent,
-        c.in_ok-push.ensures.spent,
-        ap entry_bytes is,
-        cost-on es cie fde rows w new entries more sets
-            more_sets c.in-Some.start c.in-Some.field-0-1 h.filling c.in-Some.ensures h.table pushed,
+        room,
+        c.in_ok-push_row.ensures.spent,
+        cost-on es cie fde rows w new entries more sets more_sets start end h.filling next h.table pushed,
+        ap (λ n. cost (rows_to more_sets more n)) at,
       );
-      stored = omega (arith, h.stored, c.in_ok-push.ensures.stored);
+      register = c.in_ok-push_row.ensures.register ∙ register;
+      stored = omega (arith, h.stored, room, ap (λ (l : List StoredSet). stored_bytes entries l) same, c.in_ok-push_row.ensures.stored);
     }
 
 pub returns-clause-filled : goal.returns-clause-filled
@@ -81,10 +100,8 @@ returns-clause-filled c =
     let fde = fde_of c.args.fde.now in
     let limit = c.args.fde.now.initial_location + c.args.fde.now.address_range in
     let s = c.args.frame.now in
-    let w : RowCursor =
-    cursor_at cie limit c.loop-start.context c.loop-start.instructions in
-    let new : RowCursor =
-    cursor_at cie limit c.next_range.new.context c.next_range.new.instructions in
+    let w : RowCursor = cursor_at cie limit c.loop-start.table.numbers.state c.loop-start.instructions in
+    let new : RowCursor = cursor_at cie limit c.next_row.new.self.state c.next_row.new.instructions in
     let last = c.args.table.now.end in
     let old = c.args.table.now.entries in
     let old_sets = c.args.table.now.numbers.sets in
@@ -92,44 +109,45 @@ returns-clause-filled c =
     let entries = c.loop-start.table.entries in
     let sets = c.loop-start.table.numbers.sets in
     let h = c.loop-start.invariant in
-    let end : c.loop-start.context.location ≡ limit = filling-end cie fde rows w new entries sets h.filling c.in_default.ensures in
-    filled s cie fde last old entries old_sets sets c.begin_with_cie-cie.ensures.cie
-    (filling-all cie fde rows w new entries sets h.filling c.in_default.ensures)
-    (table-further s.expressions c.loop-start.context.location limit entries sets h.table (omega arith))
+    let none : GivesNextRow w None new = rw c.in_default.is at c.in_ok-start.ensures.next in
+    let same : c.next_row.new.self.sets ≡ sets = ap (λ (v : NumberedState). v.sets) c.in_ok-start.ensures.rest in
+    let end : w.context.location ≡ limit = filling-end cie fde rows w new entries sets h.filling none in
+    subst (λ (l : List StoredSet). IsFilled s fde last old old_sets entries l) (sym same)
+    (filled s cie fde last old entries old_sets sets c.begin_with_cie-cie.ensures.cie
+    (filling-all cie fde rows w new entries sets h.filling none)
+    (table-further s.expressions w.context.location limit entries sets h.table (omega arith)))
 
-pub returns-in_err-push-clause-short : goal.returns-in_err-push-clause-short
-returns-in_err-push-clause-short c =
+pub returns-in_err-push_row-clause-short : goal.returns-in_err-push_row-clause-short
+returns-in_err-push_row-clause-short c =
     let cie = cie_of c.begin_with_cie-cie.result in
     let fde = fde_of c.args.fde.now in
     let limit = c.args.fde.now.initial_location + c.args.fde.now.address_range in
     let s = c.args.frame.now in
     let r = cie.return_address_register in
-    let w : RowCursor =
-    cursor_at cie limit c.loop-start.context c.loop-start.instructions in
-    let new : RowCursor =
-    cursor_at cie limit c.next_range.new.context c.next_range.new.instructions in
+    let w : RowCursor = cursor_at cie limit c.loop-start.table.numbers.state c.loop-start.instructions in
+    let new : RowCursor = cursor_at cie limit c.next_row.new.self.state c.next_row.new.instructions in
     let old = rows_to c.args.table.now.numbers.sets c.args.table.now.entries c.args.table.now.end in
     let rows = old ++ returning r (rows_of cie fde) in
     let entries = c.loop-start.table.entries in
     let sets = c.loop-start.table.numbers.sets in
     let h = c.loop-start.invariant in
-    let is : c.rules.result.now ≡ c.next_range.new.context.current =
-    c.rules.ensures ∙ ap (λ (m : ProgramState). m.current) c.context-in-loop-start.view_is in
-    let next = cost-next cie fde rows w new entries sets c.in-Some.start c.in-Some.field-0-1 h.filling c.in-Some.ensures in
-    let why = c.in_err-push.field-0.0 in
+    let next : GivesNextRow w (Some (c.in-Some.start, c.in-Some.field-0-1)) new = rw c.in-Some.is at c.in_ok-start.ensures.next in
+    let room : c.next_row.new.self.room ≡ c.loop-start.table.numbers.room = ap (λ (v : NumberedState). v.room) c.in_ok-start.ensures.rest in
+    let coming = cost-next cie fde rows w new entries sets c.in-Some.start c.in-Some.field-0-1 h.filling next in
+    let why = c.in_err-push_row.field-0.0 in
     let short : LacksRoom why c.args.table.now.numbers.room (fde_bytes s fde) =
-    lacks-more why c.loop-start.table.numbers.room c.args.table.now.numbers.room (entry_bytes c.rules.result.now) (fde_bytes s fde)
+    lacks-more why c.next_row.new.self.room c.args.table.now.numbers.room (entry_bytes new.context.current) (fde_bytes s fde)
     (λ less. omega (
       arith,
       less,
+      room,
       h.spent,
-      next,
-      ap entry_bytes is,
+      coming,
       cost-both old (returning r (rows_of cie fde)),
       fde-cost s cie fde c.begin_with_cie-cie.ensures.cie,
-    )) c.in_err-push.ensures.short in
-    still-lacks c.from_residual-in_err-push.result why c.args.table.now.numbers.room (fde_bytes s fde)
-    c.from_residual-in_err-push.ensures.1 short
+    )) c.in_err-push_row.ensures.short in
+    still-lacks c.from_residual-in_err-push_row.result why c.args.table.now.numbers.room (fde_bytes s fde)
+    c.from_residual-in_err-push_row.ensures.1 short
 
 pub returns-clause-spent : goal.returns-clause-spent
 returns-clause-spent c =
@@ -138,19 +156,19 @@ returns-clause-spent c =
     let limit = c.args.fde.now.initial_location + c.args.fde.now.address_range in
     let s = c.args.frame.now in
     let r = cie.return_address_register in
-    let w : RowCursor =
-    cursor_at cie limit c.loop-start.context c.loop-start.instructions in
-    let new : RowCursor =
-    cursor_at cie limit c.next_range.new.context c.next_range.new.instructions in
+    let w : RowCursor = cursor_at cie limit c.loop-start.table.numbers.state c.loop-start.instructions in
+    let new : RowCursor = cursor_at cie limit c.next_row.new.self.state c.next_row.new.instructions in
     let old = rows_to c.args.table.now.numbers.sets c.args.table.now.entries c.args.table.now.end in
     let rows = old ++ returning r (rows_of cie fde) in
     let entries = c.loop-start.table.entries in
     let sets = c.loop-start.table.numbers.sets in
     let h = c.loop-start.invariant in
+    let none : GivesNextRow w None new = rw c.in_default.is at c.in_ok-start.ensures.next in
     omega (
       arith,
       h.spent,
-      cost-all cie fde rows w new entries sets h.filling c.in_default.ensures,
+      ap (λ (v : NumberedState). v.room) c.in_ok-start.ensures.rest,
+      cost-all cie fde rows w new entries sets h.filling none,
       cost-both old (returning r (rows_of cie fde)),
       fde-cost s cie fde c.begin_with_cie-cie.ensures.cie,
     )

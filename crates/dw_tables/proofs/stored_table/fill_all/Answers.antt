@@ -97,11 +97,11 @@ returns-clause-rows c = (both c).1
 
 pub loop-entry-init : goal.loop-entry-init
 loop-entry-init c = record {
-  filling = all-begin c.args.frame.now _ _ _ c.new.ensures c.in_ok-new.ensures.sets;
+  filling = all-begin c.args.frame.now _ _ _ c.in_ok-with_capacity.ensures c.in_ok-new.ensures.sets;
   spent = omega (arith, c.in_ok-new.ensures.room);
   stored = omega (
     arith,
-    ap (λ (l : List TableEntry). length l) c.new.ensures,
+    ap (λ (l : List TableEntry). length l) c.in_ok-with_capacity.ensures,
     ap (λ (l : List StoredSet). sets_bytes l) c.in_ok-new.ensures.sets,
     c.in_ok-new.ensures.room,
   );
