@@ -1,5 +1,5 @@
 -- The rules of a row that are taken one after the other are those of the packed row.
-use Rattle.std.proofs.Common.{◌≡◌, ◌⊎◌, ℕ, ℤ, Bool, false, inl, inr, negsuc, List, [], ◌∷◌, ◌++◌, ap, sym, ◌∙◌}
+use Rattle.std.proofs.Common.{◌≡◌, ◌⊎◌, ℕ, ℤ, Bool, false, inl, inr, negsuc, List, [], ◌∷◌, ◌++◌, ap, ◌∙◌}
 use Rattle.dw_rules.specs.Rules.{Row, Rule, offset}
 use Rattle.dw_cached_rows.specs.declared.packed_row.PackedRow.{PackedRow}
 use Rattle.dw_cached_rows.specs.declared.packed_row.TheConstants.{RETURN_ADDRESS}

@@ -1,5 +1,5 @@
 -- A packed row of a procedure linkage table gives, at its address, the callers that the row gives.
-use Rattle.std.proofs.Common.{◌≡◌, ◌⊎◌, inl, inr, ℕ, suc, ◌+ℤ◌, ◌%◌, ◌<◌, nat_lt, ℤ, pos, true, List, refl, sym, ap, subst, ◌∙◌, arith, length}
+use Rattle.std.proofs.Common.{◌≡◌, inl, inr, ℕ, suc, ◌+ℤ◌, ◌%◌, ◌<◌, nat_lt, ℤ, pos, true, List, refl, sym, ap, subst, ◌∙◌}
 use Rattle.std.specs.Prelude.{Option, Some, None}
 use Rattle.dw_stack.specs.Located.{LocatedExpression}
 use Rattle.dw_stack.specs.declared.state.Kind.TheVariants.{FrameCfa}

@@ -1,19 +1,16 @@
 -- The run of the expression that linkers write for the CFA in a procedure linkage table.
-use Rattle.std.proofs.Common.{◌≡◌, ◌⊎◌, ◌==◌, ℕ, ◌+◌, ◌*◌, ◌%◌, ◌^◌, ◌-◌, ◌<◌, ◌≤◌, nat_lt, nat_le, ℤ, pos, ◌+ℤ◌, ◌-ℤ◌, Bool, true, false, if◌then◌else◌, List, [], ◌∷◌, refl, sym, ap, subst, ◌∙◌, arith, inl, inr, length, lit≤}
-use Rattle.std.specs.Prelude.{Option, Some, None, Result, Ok, Err, int_le, bit_and}
+use Rattle.std.proofs.Common.{◌≡◌, ℕ, ◌+◌, ◌*◌, ◌%◌, ◌^◌, ◌<◌, nat_le, ℤ, pos, ◌+ℤ◌, Bool, true, false, if◌then◌else◌, List, [], ◌∷◌, refl, ap, ◌∙◌, arith, inl, inr, lit≤}
+use Rattle.std.specs.Prelude.{Option, Some, None, int_le, bit_and}
 use Rattle.std.proofs.lemmas.Bool.{lt-ltb}
 use Rattle.std.proofs.lemmas.Nat.{and_mask}
-use Rattle.dw_bytes.specs.declared.target.Target.{Target}
-use Rattle.dw_ops.specs.Operations.{Operation, and, breg, ge, lit, plus, shl}
+use Rattle.dw_ops.specs.Operations.{and, breg, ge, lit, plus, shl}
 use Rattle.dw_stack.specs.declared.state.Kind.TheVariants.{FrameCfa}
-use Rattle.dw_stack.specs.Machine.{Configuration, Meets, Step, Stops, Run, Ended, Unreadable, EvaluationError}
-use Rattle.dw_stack.specs.Paths.{Placed}
+use Rattle.dw_stack.specs.Machine.{Configuration, Step, Unreadable}
 use Rattle.dw_eval.specs.Numbers.{truth, twos_complement, wrap}
 use Rattle.dw_eval.specs.Meaning.{meaning_of}
 use Rattle.dw_eval.specs.Results.{Finishes, Fails, IsRun, Outcome}
 use Rattle.dw_eval.specs.Results as results
-use Rattle.dw_eval.specs.Values.{answer, if_present, push}
-use Rattle.dw_eval.specs.World.{World}
+use Rattle.dw_eval.specs.Values.{if_present, push}
 use Rattle.dw_cached_rows.specs.PackedRows.{plt_offset, plt_operations}
 use Rattle.dw_cached_rows.proofs.CodedRuns.{world}
 

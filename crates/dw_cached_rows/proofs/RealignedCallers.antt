@@ -1,11 +1,11 @@
 -- A row of a realigned stack gives a caller.
-use Rattle.std.proofs.Common.{◌==◌, ◌≡◌, ◌≢◌, ℕ, zero, suc, ◌+◌, ◌<◌, ◌≤◌, ◌^◌, ◌%◌, nat_le, ℤ, pos, negsuc, ◌+ℤ◌, ◌*ℤ◌, Bool, true, false, if◌then◌else◌, List, [], ◌∷◌, refl, sym, ap, subst, ◌∙◌, arith}
-use Rattle.std.specs.Prelude.{All, Option, Some, None, Result, Ok, Err}
+use Rattle.std.proofs.Common.{◌==◌, ◌≡◌, ◌≢◌, ℕ, zero, suc, ◌+◌, ◌<◌, ◌≤◌, ◌^◌, ◌%◌, nat_le, ℤ, pos, negsuc, ◌+ℤ◌, Bool, true, false, if◌then◌else◌, List, [], ◌∷◌, refl, sym, ap, subst, ◌∙◌, arith}
+use Rattle.std.specs.Prelude.{All, Option, Some, None, Ok, Err}
 use Rattle.std.proofs.lemmas.Bool.{ne_eqb}
 use Rattle.std.proofs.lemmas.Bool.Decides.{nat_tests}
 use Rattle.dw_bytes.specs.declared.target.Order.TheVariants.{Little}
 use Rattle.dw_stack.specs.Located.{LocatedExpression}
-use Rattle.dw_stack.specs.Machine.{EvaluationError, Unreadable}
+use Rattle.dw_stack.specs.Machine.{Unreadable}
 use Rattle.dw_stack.specs.declared.state.Kind.TheVariants.{FrameCfa, FrameRegister}
 use Rattle.dw_eval.specs.Numbers.{wrap}
 use Rattle.dw_eval.specs.Results as results
@@ -13,7 +13,7 @@ use Rattle.dw_eval.specs.Values.{if_present, load_bytes, push}
 use Rattle.dw_eval.specs.World.{World, number_at}
 use Rattle.dw_rules.specs.Abi.{Abi, Role, kept, or_rule, rule_of_role, rule_under, rules_under, stack_pointer, unnamed}
 use Rattle.dw_rules.specs.Rules.{Row, Rule, cfa_expression, default, expression, offset, rule_in}
-use Rattle.dw_unwind.specs.Caller.{Answer, Gives, IsCaller, IsCfa, IsRegister, content_plus, if_value, machine, number_plus, unreadable, value, word}
+use Rattle.dw_unwind.specs.Caller.{Answer, Gives, IsCaller, IsCfa, IsRegister, content_plus, machine, unreadable, value, word}
 use Rattle.dw_unwind.specs.DirectAnswers.{direct_answer}
 use Rattle.dw_unwind.specs.Walks.{content_of, contents_of}
 use Rattle.dw_unwind.proofs.Contents.{by_contents}

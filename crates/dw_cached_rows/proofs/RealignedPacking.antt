@@ -1,5 +1,5 @@
 -- Rows of realigned stacks, as their expressions are read.
-use Rattle.std.proofs.Common.{◌≡◌, ◌≢◌, ℕ, zero, suc, ℤ, pos, negsuc, ◌+ℤ◌, ◌==◌, Bool, true, false, if◌then◌else◌, List, [], ◌∷◌, ◌++◌, arith, get_or, length, ◌<◌, refl, sym, ap, subst, ◌∙◌, append_assoc, ◌⊎◌, ◌≤◌, inl, inr}
+use Rattle.std.proofs.Common.{◌≡◌, ◌≢◌, ℕ, zero, suc, ℤ, pos, negsuc, ◌+ℤ◌, ◌==◌, Bool, true, false, if◌then◌else◌, List, [], ◌∷◌, ◌++◌, arith, get_or, length, refl, sym, ap, subst, ◌∙◌, append_assoc, ◌≤◌, inl, inr}
 use Rattle.std.specs.Prelude.{IfSome, Option, Some, None, map}
 use Rattle.std.specs.List.{AllByRecursion}
 use Rattle.dw_rules.specs.Views.{numbered_rule_of, rule_of}

@@ -8,10 +8,10 @@ use Rattle.dw_stack.specs.Paths.{Placed}
 use Rattle.dw_stack.specs.declared.state.Kind.{Kind}
 use Rattle.dw_stack.specs.declared.state.Kind.TheVariants.{FrameCfa, FrameRegister}
 use Rattle.dw_eval.specs.World.{World}
-use Rattle.dw_rules.specs.Abi.{Abi, or_rule, rule_of_role, rule_under, rules_under}
+use Rattle.dw_rules.specs.Abi.{Abi, or_rule, rule_of_role, rule_under}
 use Rattle.dw_rules.specs.Rules.{Cfa, IsTable, Row, Rule, RuleOver, cfa_expression, default, expression, offset, register, rule_in, rule_list, rules_below, same_value, val_expression, val_offset, with_rule}
 use Rattle.dw_rules.proofs.Tables.{IsTable-rule_list, rule_in-rule_list}
-use Rattle.dw_unwind.specs.Caller.{Answer, AreRegisters, Caller, Gives, IsCaller, IsCfa, IsRegister, division_by_zero, machine, undefined, unreadable, value, with_cfa}
+use Rattle.dw_unwind.specs.Caller.{Answer, AreRegisters, Gives, IsCfa, IsRegister, division_by_zero, machine, undefined, unreadable, value}
 use Rattle.dw_cached_rows.specs.declared.packed_row.PackedRow.{PackedRow}
 use Rattle.dw_cached_rows.specs.declared.packed_row.TheConstants.{REALIGNED}
 use Rattle.dw_cached_rows.specs.PackedRows.{AreSmall, IsCoded, IsRealignedRowOf, IsSavedByRbp, address_operations, is_saved_small, is_small, little_64, word_byte, word_operations, words_for}

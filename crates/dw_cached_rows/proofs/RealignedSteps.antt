@@ -1,11 +1,10 @@
 -- Steps of walks by a row of a realigned stack are those of the definition.
-use Rattle.std.proofs.Common.{◌==◌, ◌≡◌, ◌≢◌, ℕ, zero, suc, ◌<◌, ◌^◌, ℤ, pos, negsuc, ◌+ℤ◌, ◌*ℤ◌, Bool, true, false, if◌then◌else◌, refl, sym, ap, subst, ◌∙◌}
+use Rattle.std.proofs.Common.{◌≡◌, ℕ, zero, suc, ◌<◌, ◌^◌, ℤ, pos, negsuc, ◌+ℤ◌, refl, sym, ap, subst, ◌∙◌}
 use Rattle.std.specs.Prelude.{Option, Some, None, option_map}
 use Rattle.dw_eval.specs.Numbers.{wrap}
-use Rattle.dw_eval.specs.World.{World}
-use Rattle.dw_rules.specs.Abi.{Role, kept}
+use Rattle.dw_rules.specs.Abi.{kept}
 use Rattle.dw_rules.specs.Rules.{Row}
-use Rattle.dw_unwind.specs.Caller.{Answer, Caller, unreadable, value, word}
+use Rattle.dw_unwind.specs.Caller.{Caller, value}
 use Rattle.dw_unwind.specs.Walks.{Place, address_before, content_of, place_of_caller, stop_of_return}
 use Rattle.dw_unwind.specs.declared.frames.Stop.TheVariants.{ReturnUnreadable}
 use Rattle.dw_cached_rows.specs.declared.packed_row.PackedRow.{PackedRow}
@@ -13,8 +12,8 @@ use Rattle.dw_cached_rows.specs.declared.stack_place.StackPlace.{StackPlace}
 use Rattle.dw_cached_rows.specs.declared.stack_place.Step.TheVariants as steps
 use Rattle.dw_cached_rows.specs.declared.register_place.RegisterPlace.{RegisterPlace}
 use Rattle.dw_cached_rows.specs.declared.register_place.RegisterStep.TheVariants as register_steps
-use Rattle.dw_cached_rows.specs.PackedRows.{IsRealignedRowOf, words_for}
-use Rattle.dw_cached_rows.specs.CachedWalks.{EndsHere, IsAt, IsStep, address_by, content_by_rbp, frame_pointer_by_rbp, frame_pointer_in, word_at, x86_64}
+use Rattle.dw_cached_rows.specs.PackedRows.{IsRealignedRowOf}
+use Rattle.dw_cached_rows.specs.CachedWalks.{EndsHere, IsAt, IsStep, address_by, content_by_rbp, frame_pointer_by_rbp, frame_pointer_in, word_at}
 use Rattle.dw_cached_rows.specs.RegisterWalks.{EndsWith, IsAfterBy, IsRegisterStep, IsWith}
 use Rattle.dw_cached_rows.proofs.RealignedCallers.{AllUnder, EachUnder, answer, realigned-caller, saved_answer}
 use Rattle.dw_cached_rows.proofs.Steps.{Fits, kept-content, pointer-fits, same-number, word-fits, word-unreadable, world}

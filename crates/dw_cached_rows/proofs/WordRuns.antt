@@ -3,9 +3,8 @@ use Rattle.std.proofs.Common.{◌≡◌, ℕ, ℤ, pos, ◌+ℤ◌, ◌*ℤ◌, 
 use Rattle.std.specs.Prelude.{Option, Some, None, Ok}
 use Rattle.dw_ops.specs.Operations.{breg, deref}
 use Rattle.dw_stack.specs.declared.state.Kind.TheVariants.{FrameCfa, FrameRegister}
-use Rattle.dw_stack.specs.Machine.{Configuration, Step}
+use Rattle.dw_stack.specs.Machine.{Configuration}
 use Rattle.dw_eval.specs.Numbers.{wrap}
-use Rattle.dw_eval.specs.Meaning.{meaning_of}
 use Rattle.dw_eval.specs.Results.{IsRun}
 use Rattle.dw_eval.specs.Results as results
 use Rattle.dw_eval.specs.Values.{if_present, load_bytes, push}

@@ -1,5 +1,4 @@
-use Rattle.std.proofs.Common.{◌≡◌, ◌∙◌, ℕ, List, ap, arith, rules}
-use Rattle.dw_bytes.specs.declared.target.Target.{Target}
+use Rattle.std.proofs.Common.{◌≡◌, ◌∙◌, ap, arith, rules}
 use Rattle.dw_rules.specs.Views.{cfa_rule_of}
 use Rattle.dw_stack.specs.Located.{LocatedExpression, located_of}
 use Rattle.dw_cached_rows.specs.PackedRows.{little_64}

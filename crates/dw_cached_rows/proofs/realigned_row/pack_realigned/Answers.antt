@@ -1,4 +1,4 @@
-use Rattle.std.proofs.Common.{◌≡◌, ◌∙◌, ℤ, ap, of_z, pos, refl, rules, subst, sym, to_z, w32, w8}
+use Rattle.std.proofs.Common.{◌≡◌, ◌∙◌, ℤ, ap, of_z, refl, rules, subst, sym, to_z, w32, w8}
 use Rattle.std.specs.Prelude.{Some}
 use Rattle.dw_rules.specs.Rules.{Cfa, Rule}
 use Rattle.dw_cached_rows.specs.declared.packed_row.PackedRow.{PackedRow}

@@ -1,5 +1,4 @@
-use Rattle.std.proofs.Common.{◌≡◌, ◌≢◌, ◌+ℤ◌, ap, arith, pos, rules, to_z, of_z, w8}
-use Rattle.std.proofs.lemmas.Int.{ints}
+use Rattle.std.proofs.Common.{◌≡◌, ◌≢◌, ◌+ℤ◌, ap, pos, rules, to_z, of_z, w8}
 use Rattle.dw_rules.specs.Views.{rule_of}
 use Rattle.dw_stack.specs.Located.{located_of}
 use Rattle.dw_cached_rows.proofs.RealignedPacking.{saved-read}

@@ -1,5 +1,5 @@
 use Rattle.std.proofs.Common.{◌≡◌, ℕ, rules}
-use Rattle.dw_stack.specs.Located.{LocatedExpression, located_of}
+use Rattle.dw_stack.specs.Located.{located_of}
 use Rattle.dw_cached_rows.specs.PackedRows.{little_64}
 use Rattle.dw_cached_rows.proofs.RealignedPacking.{address-read}
 use Rattle.dw_cached_rows.proofs.realigned_row.words_of_address.Goals as goal

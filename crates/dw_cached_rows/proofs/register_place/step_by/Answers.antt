@@ -2,7 +2,7 @@ use Rattle.std.proofs.Common.{◌≡◌, ◌∙◌, ap, refl, sym}
 use Rattle.dw_cached_rows.specs.declared.packed_row.TheConstants.{REALIGNED}
 use Rattle.dw_cached_rows.specs.RegisterWalks.{register_in}
 use Rattle.dw_cached_rows.proofs.RegisterSteps.{kept-register, no-register}
-use Rattle.dw_cached_rows.proofs.Steps.{direct-row, realigned-of, usual-of}
+use Rattle.dw_cached_rows.proofs.Steps.{direct-row, usual-of}
 use Rattle.dw_cached_rows.proofs.register_place.step_by.Goals as goal
 
 pub returns-then-form-eq-LAST_BY_RSP-clause-row : goal.returns-then-form-eq-LAST_BY_RSP-clause-row
