@@ -113,8 +113,9 @@ abbrev pub HasRulesAt : ℕ → Row → Row → Type 0
 HasRulesAt address one other = HasRulesOf one other
     ⊎ ((x : LocatedExpression) × (other.cfa ≡ Some (cfa_expression x)) × GivesAt address one other)
 
--- The row that is held is one that was kept for this slot and this address. It isn't that of a signal
--- frame, and the return address has the column that x86-64 gives it.
+-- The row that is held has the rules of one that was kept for this slot and this address, or gives what
+-- that one gives there. That one isn't a signal frame's, and the return address has the column that
+-- x86-64 gives it.
 pub record IsKept (slot address : ℕ) (row : Row) (column : ℕ) (is_signal : Bool) (other at : ℕ) (held : Row) : Type 0 where
   pub slot_is : other ≡ slot
   pub address_is : at ≡ address

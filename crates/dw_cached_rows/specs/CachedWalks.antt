@@ -45,12 +45,12 @@ abbrev pub caller_frame_pointer : (ℕ → Option ℕ) → ℕ → ℤ → Stack
 caller_frame_pointer memory cfa (pos zero) here = frame_pointer_in memory here
 caller_frame_pointer memory cfa k here = word_at memory (wrap 64 (pos cfa +ℤ k *ℤ pos 8))
 
--- the address that is so many words above a number
+-- the address that is a number of words of 8 bytes above another one
 abbrev pub address_by : ℕ → ℤ → ℕ
 address_by base words = wrap 64 (pos base +ℤ words *ℤ pos 8)
 
 -- what rbp has in the caller of a frame whose stack was realigned, and in which it has the content
--- `base`: it is saved one word above so many words from there; 0 says that it isn't saved
+-- `base`: it is saved k + 1 words above that; 0 says that it isn't saved
 abbrev pub frame_pointer_by_rbp : (ℕ → Option ℕ) → ℕ → ℤ → StackPlace → Option ℕ
 frame_pointer_by_rbp memory base (pos zero) here = frame_pointer_in memory here
 frame_pointer_by_rbp memory base k here = word_at memory (address_by base (k +ℤ pos 1))
@@ -136,7 +136,8 @@ stop_of_end ends.ReturnUndefined = Some ReturnUndefined
 stop_of_end ends.ReturnUnreadable = Some ReturnUnreadable
 stop_of_end _ = None
 
--- A walk that is here may use an entry that its two registers aren't enough for.
+-- A walk that is here may use an entry that its two registers, and what is known of memory, aren't
+-- enough for.
 pub record IsOther (rows : List PackedRow) (mask : ℕ) (memory : ℕ → Option ℕ) (here : StackPlace) : Type 0 where
   pub looked_up : here.key ≢ 0
   pub index : ℕ

@@ -50,7 +50,7 @@ pub record IsRowOf (p : PackedRow) (row : Row) : Type 0 where
 abbrev pub little_64 : Target
 little_64 = record { order = Little; address_size = Eight }
 
--- the bytes of the expression encode these operations, and are so many
+-- the bytes of the expression encode these operations, and `size` is their number
 pub record IsCoded (operations : List Placed) (size : ℕ) (x : LocatedExpression) : Type 0 where
   pub target : x.target ≡ little_64
   pub are : operations_in x.target x.bytes ≡ operations
@@ -87,7 +87,7 @@ pub record IsPltRowOf (p : PackedRow) (address : ℕ) (row : Row) : Type 0 where
 
 -- ---- rows of realigned stacks
 
--- the address of a word that is so many words above rbp, and the word itself
+-- the address that is a number of words above rbp, and the word that memory has there
 abbrev pub address_operations : ℤ → List Placed
 address_operations words = (0, breg RBP (words *ℤ pos 8)) ∷ []
 

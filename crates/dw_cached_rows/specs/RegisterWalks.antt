@@ -122,7 +122,8 @@ LacksOneBy after p here = (after p.rbx here.rbx ≡ None) ⊎ (after p.rbp here.
 abbrev pub LacksSaved : (ℕ → Option ℕ) → ℕ → PackedRow → RegisterPlace → Type 0
 LacksSaved memory cfa p here = LacksOneBy (content_after memory cfa) p here
 
--- The stack was realigned, and the word that has the CFA isn't known, or one where a register is saved.
+-- The stack was realigned, and the word that has the CFA isn't known, or one where a register is saved;
+-- or the entry stands for no row.
 abbrev pub LacksRealigned : (ℕ → Option ℕ) → PackedRow → RegisterPlace → Type 0
 LacksRealigned memory p here = (p.form ≡ REALIGNED) × ((cfa : ℕ) → AreSmall p
     → word_at memory (address_by here.rbp p.cfa_offset) ≡ Some cfa → LacksOneBy (content_by_rbp memory here.rbp) p here)

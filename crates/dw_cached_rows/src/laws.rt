@@ -23,9 +23,9 @@ pub fn walks_are_those_over_look_ups<T: UnwindRows>()
         → AreFrames (over_rows little_64 (T.finds source) x86_64 memory) from frames }
 {}
 
-/// The same where the cache also has rows of procedure linkage tables, which give at their addresses
-/// what the rows give that are looked up: from a place on at which rip has the address of the frame,
-/// the frames are those of a walk with the look-up.
+/// The same where the cache also has rows of procedure linkage tables and of realigned stacks, which
+/// give at their addresses what the rows give that are looked up: from a place on at which rip has the
+/// address of the frame, the frames are those of a walk with the look-up.
 pub fn walks_from_known_addresses_are_those_over_look_ups<T: UnwindRows>()
     ensures { (source : T) (rows : List PackedRow) (confirmed : ℕ) (memory : ℕ → Option ℕ)
         (from : Option Place) (frames : List WalkedFrame)

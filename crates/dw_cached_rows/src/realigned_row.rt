@@ -142,7 +142,7 @@ pub(crate) fn pack_realigned(row: &UnwindRow<'_, '_>) -> Option<PackedRow>
     Some(packed)
 }
 
-/// Whether a byte of SLEB128 may say so many words.
+/// Whether one byte of SLEB128 can encode this number of words, in bytes.
 fn is_small(words: i32) -> bool
     ensures { result ≡ is_small words }
 {

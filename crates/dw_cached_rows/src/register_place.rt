@@ -55,7 +55,7 @@ pub(crate) enum RegisterStep {
     ReturnUndefined(u64),
     /// Its return address can't be read. Its CFA is this.
     ReturnUnreadable(u64),
-    /// It takes more than these registers to tell.
+    /// These registers, and what is known of memory, aren't enough to tell.
     Other,
 }
 

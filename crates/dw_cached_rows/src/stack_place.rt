@@ -49,7 +49,7 @@ pub(crate) enum Step {
     ReturnUndefined,
     /// Its return address can't be read.
     ReturnUnreadable,
-    /// Two registers aren't enough to tell.
+    /// Two registers, and what is known of memory, aren't enough to tell.
     Other,
 }
 

@@ -19,7 +19,7 @@ pub enum WalkEnd {
     /// The cache has no row for the frame that the walk is at, or no address is looked up for it.
     Missing,
     /// The row of the frame that the walk is at can't be packed, or needs a register that isn't
-    /// known.
+    /// known; or its stack was realigned, and the word that has the CFA isn't known.
     Other,
     /// The return address of the last frame is undefined: the walk is complete.
     ReturnUndefined,
