@@ -1,11 +1,11 @@
 -- A walk passes one frame more, or ends.
-use Rattle.std.proofs.Common.{◌≡◌, ◌≢◌, ℕ, zero, suc, ◌<◌, ◌==◌, ◌&&◌, ◌%◌, Bool, true, false, List, [], ◌∷◌, ◌++◌, refl, sym, ap, subst, inl, ◌∙◌, arith, ◌+◌, length, take, drop, set, drop-drop, drop-set-lt}
-use Rattle.std.specs.Prelude.{Option, Some, None}
+use Rattle.std.proofs.Common.{◌≡◌, ◌≢◌, ℕ, zero, suc, ◌<◌, ◌≤◌, ◌-◌, ◌==◌, ◌&&◌, ◌%◌, Bool, true, false, List, [], ◌∷◌, ◌++◌, refl, sym, ap, subst, inl, ◌∙◌, arith, ◌+◌, length, take, drop, set, drop-drop, drop-set-lt}
+use Rattle.std.specs.Prelude.{Option, Some, None, option_map}
 use Rattle.std.proofs.lemmas.List.{map-append, take_more_set}
 use Rattle.std.proofs.lemmas.Bool.Decides.{nat_tests}
 use Rattle.dw_rules.specs.Rules.{Row}
 use Rattle.dw_unwind.specs.Caller.{Caller}
-use Rattle.dw_unwind.specs.Walks.{AreFrames, CallerRelation, IsFrameAt, Place, UnwindsAt, WalkedFrame, address_before, next_place}
+use Rattle.dw_unwind.specs.Walks.{AreFrames, CallerRelation, IsFrameAt, Place, UnwindsAt, WalkedFrame, address_before, content_of, next_place, place_of_caller}
 use Rattle.dw_unwind.specs.declared.frames.Stop.{Stop}
 use Rattle.dw_unwind.specs.declared.frames.Stop.TheVariants.{ReturnUndefined, ReturnUnreadable}
 use Rattle.dw_cached_rows.specs.declared.cached_rows.TheConstants.{ROWS}
@@ -16,7 +16,7 @@ use Rattle.dw_cached_rows.specs.declared.stack_place.Step.{Step}
 use Rattle.dw_cached_rows.specs.declared.stack_place.Step.TheVariants as steps
 use Rattle.dw_cached_rows.specs.PackedRows.{IsWalkedRowOf}
 use Rattle.dw_cached_rows.specs.CachedRows.{entry_at, is_confirmed, is_usable}
-use Rattle.dw_cached_rows.specs.CachedWalks.{EndsAfter, EndsHere, IsAt, IsCallerFrom, IsStep, Passes, addresses_of, over_cached, place_after}
+use Rattle.dw_cached_rows.specs.CachedWalks.{EndsAfter, EndsHere, IsAt, IsCallerFrom, IsStep, Passes, addresses_of, as_caller, over_cached, place_after}
 
 -- ---- one frame more
 
@@ -80,11 +80,42 @@ addresses-snoc frames f xs x are is =
 abbrev pub Says : (ℕ → Option ℕ) → PackedRow → StackPlace → Step → Type 0
 Says memory e here step = (p : Place) (full : Row) → IsAt memory here p → IsWalkedRowOf e full → IsStep memory full p step
 
-pub passes-next : (rows : List PackedRow) (confirmed i : ℕ) (memory : ℕ → Option ℕ) (from here next : StackPlace) (xs : List ℕ)
-    → here.key ≢ 0 → i < ROWS → is_usable confirmed here.key (entry_at rows i) ≡ true → HasRow (entry_at rows i)
+-- a walk that is at the next place is also at the other one, if the next is that of a caller
+abbrev pub IsCallerAt : (ℕ → Option ℕ) → StackPlace → StackPlace → Type 0
+IsCallerAt memory next to = (caller : Caller) (q : Place) → next_place (Some caller) ≡ Some q → IsAt memory next q → IsAt memory to q
+
+pub at-next : (memory : ℕ → Option ℕ) (next : StackPlace) → IsCallerAt memory next next
+at-next memory next caller q is at = at
+
+-- a caller is looked up by its address
+pub by-address : (caller : Caller) (q : Place) → next_place (Some caller) ≡ Some q → q.looked_up ≡ address_before q.address
+by-address caller q is = go (content_of caller.return_address) is
+  where
+    go : (o : Option ℕ) → option_map (place_of_caller caller) o ≡ Some q → q.looked_up ≡ address_before q.address
+    go None none = absurd (cc)
+    go (Some a) some =
+        let same : place_of_caller caller a ≡ q = cc in
+        subst (λ (p : Place). p.looked_up ≡ address_before p.address) same refl
+
+pub same-address : (a b : ℕ) → address_before a ≡ address_before b → a ≡ b
+same-address zero zero is = refl
+same-address zero (suc b) is = absurd (cc)
+same-address (suc a) zero is = absurd (cc)
+same-address (suc a) (suc b) is = cc
+
+pub at-caller : (memory : ℕ → Option ℕ) (next : StackPlace) → IsCallerAt memory next (as_caller next)
+at-caller memory next caller q is at = record {
+  address = same-address q.address next.key (sym (by-address caller q is) ∙ at.looked_up);
+  looked_up = at.looked_up;
+  pointer = at.pointer;
+  frame_pointer = at.frame_pointer;
+}
+
+pub passes-next : (rows : List PackedRow) (confirmed i : ℕ) (memory : ℕ → Option ℕ) (from here next to : StackPlace) (xs : List ℕ)
+    → IsCallerAt memory next to → here.key ≢ 0 → i < ROWS → is_usable confirmed here.key (entry_at rows i) ≡ true → HasRow (entry_at rows i)
     → Says memory (entry_at rows i) here (steps.To next) → Passes (over_cached rows confirmed memory) memory from xs here
-    → Passes (over_cached rows confirmed memory) memory from (xs ++ here.address ∷ []) next
-passes-next rows confirmed i memory from here next xs some lt usable has says passes p at =
+    → Passes (over_cached rows confirmed memory) memory from (xs ++ here.address ∷ []) to
+passes-next rows confirmed i memory from here next to xs comes some lt usable has says passes p at =
     let u = over_cached rows confirmed memory in
     let before = passes p at in
     let frames = before.0 in let q = before.1 in let passed = before.2 in let at-q = before.3 in
@@ -95,7 +126,7 @@ passes-next rows confirmed i memory from here next xs some lt usable has says pa
       frames ++ f ∷ [],
       step.2,
       record { are = more.0; to_is = more.1 ∙ step.3 },
-      step.4,
+      comes step.0 step.2 step.3 step.4,
       addresses-snoc frames f xs here.address before.4 at-q.address,
     )
 
@@ -132,15 +163,23 @@ written-next xs old n x lt rest =
     drop-set-lt (n + 1) xs n x (omega arith)
     ∙ sym (drop-drop 1 n xs) ∙ ap (λ (l : List ℕ). drop 1 l) rest ∙ drop-drop 1 n old
 
-pub walks-on : (held rows : List PackedRow) (confirmed i : ℕ) (memory : ℕ → Option ℕ) (from here next : StackPlace) (xs : List ℕ) (n : ℕ)
-    (step : Step) → rows ≡ held → n < length xs → here.key ≢ 0 → i < ROWS → is_usable confirmed here.key (entry_at rows i) ≡ true
+-- The same from any later index on.
+pub written-past : (xs old : List ℕ) (n m x : ℕ) → n < length xs → n + 1 ≤ m → drop n xs ≡ drop n old → drop m (set xs n x) ≡ drop m old
+written-past xs old n m x lt le rest =
+    let k = m - (n + 1) in
+    let m-is : n + 1 + k ≡ m = omega arith in
+    subst (λ (i : ℕ). drop i (set xs n x) ≡ drop i old) m-is
+    (sym (drop-drop k (n + 1) (set xs n x)) ∙ ap (λ (l : List ℕ). drop k l) (written-next xs old n x lt rest) ∙ drop-drop k (n + 1) old)
+
+pub walks-on : (held rows : List PackedRow) (confirmed i : ℕ) (memory : ℕ → Option ℕ) (from here next to : StackPlace) (xs : List ℕ) (n : ℕ)
+    (step : Step) → IsCallerAt memory next to → rows ≡ held → n < length xs → here.key ≢ 0 → i < ROWS → is_usable confirmed here.key (entry_at rows i) ≡ true
     → (step ≢ steps.Other → HasRow (entry_at rows i)) → step ≡ steps.To next → Says memory (entry_at rows i) here step
     → Passes (over_cached held confirmed memory) memory from (take n xs) here
-    → Passes (over_cached held confirmed memory) memory from (take (n + 1) (set xs n here.address)) next
-walks-on held rows confirmed i memory from here next xs n step same lt some inside usable has is says passes =
+    → Passes (over_cached held confirmed memory) memory from (take (n + 1) (set xs n here.address)) to
+walks-on held rows confirmed i memory from here next to xs n step comes same lt some inside usable has is says passes =
     let u = over_cached held confirmed memory in
-    subst (λ (l : List ℕ). Passes u memory from l next) (sym (take_more_set xs n here.address lt))
-    (passes-next held confirmed i memory from here next (take n xs) some inside
+    subst (λ (l : List ℕ). Passes u memory from l to) (sym (take_more_set xs n here.address lt))
+    (passes-next held confirmed i memory from here next to (take n xs) comes some inside
     (subst (λ (r : List PackedRow). is_usable confirmed here.key (entry_at r i) ≡ true) same usable)
     (subst (λ (r : List PackedRow). HasRow (entry_at r i)) same (has (λ other. other-goes next (sym other ∙ is))))
     (subst (λ (r : List PackedRow). Says memory (entry_at r i) here (steps.To next)) same

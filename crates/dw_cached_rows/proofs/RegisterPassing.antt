@@ -1,5 +1,5 @@
 -- A walk that gives registers passes one frame more, or ends.
-use Rattle.std.proofs.Common.{◌≡◌, ◌≢◌, ℕ, ◌+◌, ◌<◌, true, List, [], ◌∷◌, ◌++◌, refl, sym, ap, subst, ◌∙◌, arith, length, take, drop, set, drop-drop, drop-set-lt}
+use Rattle.std.proofs.Common.{◌≡◌, ◌≢◌, ℕ, ◌+◌, ◌-◌, ◌<◌, ◌≤◌, true, List, [], ◌∷◌, ◌++◌, refl, sym, ap, subst, ◌∙◌, arith, length, take, drop, set, drop-drop, drop-set-lt}
 use Rattle.std.specs.Prelude.{Option, Some}
 use Rattle.std.proofs.lemmas.List.{take_more_set}
 use Rattle.dw_rules.specs.Rules.{Row}
@@ -124,3 +124,13 @@ pub written-next : (xs old : List FrameWithRegisters) (n : ℕ) (x : FrameWithRe
 written-next xs old n x lt rest =
     drop-set-lt (n + 1) xs n x (omega arith)
     ∙ sym (drop-drop 1 n xs) ∙ ap (λ (l : List FrameWithRegisters). drop 1 l) rest ∙ drop-drop 1 n old
+
+-- the same from any later index on
+pub written-past : (xs old : List FrameWithRegisters) (n m : ℕ) (x : FrameWithRegisters) → n < length xs → n + 1 ≤ m
+    → drop n xs ≡ drop n old → drop m (set xs n x) ≡ drop m old
+written-past xs old n m x lt le rest =
+    let k = m - (n + 1) in
+    let m-is : n + 1 + k ≡ m = omega arith in
+    subst (λ (i : ℕ). drop i (set xs n x) ≡ drop i old) m-is
+    (sym (drop-drop k (n + 1) (set xs n x)) ∙ ap (λ (l : List FrameWithRegisters). drop k l) (written-next xs old n x lt rest)
+    ∙ drop-drop k (n + 1) old)

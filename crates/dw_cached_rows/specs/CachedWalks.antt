@@ -67,6 +67,17 @@ pub record IsAt (memory : ℕ → Option ℕ) (here : StackPlace) (p : Place) : 
   pub pointer : p.registers RSP ≡ Some here.stack_pointer
   pub frame_pointer : p.registers RBP ≡ frame_pointer_in memory here
 
+-- a caller's place: its address is the one by which it is looked up
+abbrev pub as_caller : StackPlace → StackPlace
+as_caller here = record {
+  address = here.key;
+  key = here.key;
+  stack_pointer = here.stack_pointer;
+  frame_pointer = here.frame_pointer;
+  is_saved = here.is_saved;
+  reserved = 0;
+}
+
 -- ---- one step
 
 -- the row gives this caller to the frame at the place

@@ -240,6 +240,24 @@ fn last_step<M: Memory>(row: &PackedRow, here: &RegisterPlace, _memory: &M) -> R
     RegisterStep::ReturnUndefined(plus(here.stack_pointer, i64::from(row.cfa_offset)))
 }
 
+/// What a row says of a frame whose CFA is by rsp or by rbp, as nearly all are. `Other` of any other.
+#[inline(always)]
+pub(crate) fn usual_step<M: Memory>(
+    row: &PackedRow,
+    here: &RegisterPlace,
+    memory: &M,
+) -> RegisterStep
+    ensures row { result ≢ steps.Other → (full : Row) × IsWalkedRowOf row.now full }
+    ensures step { (p : Place) (full : Row) → IsWith here.now p
+        → IsWalkedRowOf row.now full → IsRegisterStep (M.bytes memory.now) full p result }
+{
+    match u16::from(row.form) {
+        RSP => step_with_cfa(row, here, here.stack_pointer, memory),
+        RBP => step_with_cfa(row, here, here.rbp, memory),
+        _ => RegisterStep::Other,
+    }
+}
+
 /// What a row says of a frame.
 #[inline(always)]
 pub(crate) fn step_by<M: Memory>(row: &PackedRow, here: &RegisterPlace, memory: &M) -> RegisterStep

@@ -8,16 +8,60 @@ ghost use Rattle.dw_cached_rows.specs.RegisterWalks.{EndsWithRegisters, IsOtherW
 ghost use Rattle.dw_cached_rows.specs.declared.walk.WalkEnd.TheVariants as ends;
 
 use crate::cached_rows::{CachedRows, ROWS};
-use crate::register_place::{FrameWithRegisters, RegisterPlace, RegisterStep, step_by};
+use crate::register_place::{FrameWithRegisters, RegisterPlace, RegisterStep, step_by, usual_step};
 use crate::walk::{WalkEnd, locate};
 use dw_eval::Memory;
 
 impl CachedRows {
+    /// Walks on from `place`, past frames whose CFAs are by rsp or by rbp, as `pass_callers` does, and
+    /// writes them with their registers and their CFAs. These are more than the processor has room
+    /// for, so they stay in `place`.
+    #[inline(never)]
+    fn pass_frames<M: Memory>(
+        &mut self,
+        confirmed: u64,
+        place: &mut RegisterPlace,
+        memory: &M,
+        frames: &mut [FrameWithRegisters],
+        from: usize,
+        after: usize,
+    ) -> (usize, usize)
+        requires from { from ≤ length frames.old }
+        requires after { after ≤ ROWS }
+        ensures walks { (begun : RegisterPlace)
+            → WalksWith (over_cached self.old.rows confirmed (M.bytes memory.now)) begun
+            (take from frames.old) place.old
+            → WalksWith (over_cached self.old.rows confirmed (M.bytes memory.now)) begun
+            (take result.0 frames.new) place.new }
+        ensures more { from ≤ result.0 }
+        ensures few { result.0 ≤ length frames.old }
+        ensures last { result.1 ≤ ROWS }
+        ensures same { self.new.rows ≡ self.old.rows }
+        ensures rest { drop result.0 frames.new ≡ drop result.0 frames.old }
+        ensures length { length frames.new ≡ length frames.old }
+    {
+        let mut last = after;
+        let mut count = from;
+        while count < frames.len() {
+            let Some(index) = locate(&self.rows, &mut self.next, last, place.key, confirmed) else {
+                break;
+            };
+            let RegisterStep::To(caller) = usual_step(&self.rows[index], place, memory) else {
+                break;
+            };
+            let cfa = caller.stack_pointer;
+            frames[count] = FrameWithRegisters { place: *place, cfa };
+            count += 1;
+            *place = caller;
+            last = index;
+        }
+        (count, last)
+    }
+
     /// Walks up a stack from `place`, as `walk` does, and writes frames with their registers and
     /// their CFAs to `frames`, as many as fit. Returns how many it wrote, and why there are no more.
     ///
     /// Afterwards `place` is that of the frame after the last one that was written, as for `walk`.
-    #[inline(never)]
     pub fn walk_frames<M: Memory>(
         &mut self,
         confirmed: u64,
@@ -41,41 +85,39 @@ impl CachedRows {
         ensures rest { drop result.0 frames.new ≡ drop result.0 frames.old }
         ensures length { length frames.new ≡ length frames.old }
     {
-        let mut here = *place;
         let mut last = ROWS;
         let mut count = 0;
         while count < frames.len() {
-            let Some(index) = locate(&self.rows, &mut self.next, last, here.key, confirmed) else {
-                *place = here;
+            let Some(index) = locate(&self.rows, &mut self.next, last, place.key, confirmed) else {
                 return (count, WalkEnd::Missing);
             };
-            match step_by(&self.rows[index], &here, memory) {
+            match step_by(&self.rows[index], place, memory) {
                 RegisterStep::To(caller) => {
-                    frames[count] = FrameWithRegisters {
-                        place: here,
-                        cfa: caller.stack_pointer,
-                    };
-                    count += 1;
-                    here = caller;
-                    last = index;
+                    let cfa = caller.stack_pointer;
+                    frames[count] = FrameWithRegisters { place: *place, cfa };
+                    *place = caller;
+                    let passed = self.pass_frames(
+                        confirmed,
+                        place,
+                        memory,
+                        frames,
+                        count + 1,
+                        index,
+                    );
+                    count = passed.0;
+                    last = passed.1;
                 }
                 RegisterStep::ReturnUndefined(cfa) => {
-                    frames[count] = FrameWithRegisters { place: here, cfa };
-                    *place = here;
+                    frames[count] = FrameWithRegisters { place: *place, cfa };
                     return (count + 1, WalkEnd::ReturnUndefined);
                 }
                 RegisterStep::ReturnUnreadable(cfa) => {
-                    frames[count] = FrameWithRegisters { place: here, cfa };
-                    *place = here;
+                    frames[count] = FrameWithRegisters { place: *place, cfa };
                     return (count + 1, WalkEnd::ReturnUnreadable);
                 }
-                RegisterStep::Other => {
-                    *place = here;
-                    return (count, WalkEnd::Other);
-                }
+                RegisterStep::Other => return (count, WalkEnd::Other),
             }
         }
-        *place = here;
         (count, WalkEnd::Full)
     }
 }

@@ -4,7 +4,7 @@ ghost use Rattle.std.specs.Prelude.{◌≡◌, ◌≢◌, ◌+ℤ◌, ◌^◌, �
 ghost use Rattle.dw_eval.specs.Numbers.{wrap};
 ghost use Rattle.dw_rules.specs.Rules.{Row};
 ghost use Rattle.dw_unwind.specs.Walks.{Place};
-ghost use Rattle.dw_cached_rows.specs.CachedWalks.{IsAt, IsStep, NeedsMore, address_by, caller_frame_pointer, frame_pointer_by_rbp, frame_pointer_in, word_at};
+ghost use Rattle.dw_cached_rows.specs.CachedWalks.{IsAt, IsStep, NeedsMore, address_by, as_caller, caller_frame_pointer, frame_pointer_by_rbp, frame_pointer_in, word_at};
 ghost use Rattle.dw_cached_rows.specs.PackedRows.{AreSmall, IsRealignedRowOf, IsRowOf, IsWalkedRowOf};
 ghost use Rattle.dw_cached_rows.specs.declared.stack_place.Step.TheVariants as steps;
 
@@ -84,6 +84,21 @@ fn content<M: Memory>(here: &StackPlace, memory: &M) -> Option<u64>
         Some(here.frame_pointer)
     } else {
         word(memory, here.frame_pointer)
+    }
+}
+
+/// A place that is a caller's: its address is the one by which it is looked up.
+#[inline(always)]
+pub(crate) fn as_caller(place: &StackPlace) -> StackPlace
+    ensures { result ≡ as_caller place.now }
+{
+    StackPlace {
+        address: place.key,
+        key: place.key,
+        stack_pointer: place.stack_pointer,
+        frame_pointer: place.frame_pointer,
+        is_saved: place.is_saved,
+        reserved: 0,
     }
 }
 
@@ -218,11 +233,12 @@ fn last_step<M: Memory>(row: &PackedRow, here: &StackPlace, _memory: &M) -> Step
     Step::ReturnUndefined
 }
 
-/// What a row says of a frame.
+/// What a row says of a frame whose CFA is by rsp or by rbp, as nearly all are. `Other` of any other.
 #[inline(always)]
-pub(crate) fn step_by<M: Memory>(row: &PackedRow, here: &StackPlace, memory: &M) -> Step
+pub(crate) fn usual_step<M: Memory>(row: &PackedRow, here: &StackPlace, memory: &M) -> Step
     ensures row { result ≢ steps.Other → (full : Row) × IsWalkedRowOf row.now full }
-    ensures other { result ≡ steps.Other → NeedsMore (M.bytes memory.now) row.now here.now }
+    ensures other { result ≡ steps.Other → row.now.form ≢ LAST_BY_RSP → row.now.form ≢ REALIGNED
+        → NeedsMore (M.bytes memory.now) row.now here.now }
     ensures step { (p : Place) (full : Row) → IsAt (M.bytes memory.now) here.now p
         → IsWalkedRowOf row.now full → IsStep (M.bytes memory.now) full p result }
 {
@@ -232,8 +248,21 @@ pub(crate) fn step_by<M: Memory>(row: &PackedRow, here: &StackPlace, memory: &M)
             Some(base) => step_with_cfa(row, here, base, memory),
             None => Step::Other,
         },
+        _ => Step::Other,
+    }
+}
+
+/// What a row says of a frame.
+#[inline(always)]
+pub(crate) fn step_by<M: Memory>(row: &PackedRow, here: &StackPlace, memory: &M) -> Step
+    ensures row { result ≢ steps.Other → (full : Row) × IsWalkedRowOf row.now full }
+    ensures other { result ≡ steps.Other → NeedsMore (M.bytes memory.now) row.now here.now }
+    ensures step { (p : Place) (full : Row) → IsAt (M.bytes memory.now) here.now p
+        → IsWalkedRowOf row.now full → IsStep (M.bytes memory.now) full p result }
+{
+    match u16::from(row.form) {
         LAST_BY_RSP => last_step(row, here, memory),
         REALIGNED_FORM => realigned_step(row, here, memory),
-        _ => Step::Other,
+        _ => usual_step(row, here, memory),
     }
 }

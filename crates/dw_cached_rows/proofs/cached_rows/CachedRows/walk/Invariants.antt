@@ -10,7 +10,7 @@ invariant-loop-count g l = record {
   last : l.last ≤ ROWS;
   rows : l.self.rows ≡ l.fn.self.rows;
   passes : Passes (over_cached l.fn.self.rows l.confirmed (g.M.Memory.bytes l.memory)) (g.M.Memory.bytes l.memory) l.fn.place
-      (take l.count l.addresses) l.here;
+      (take l.count l.addresses) l.place;
   rest : drop l.count l.addresses ≡ drop l.count l.fn.addresses;
 }
 

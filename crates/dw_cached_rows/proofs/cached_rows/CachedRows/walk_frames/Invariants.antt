@@ -10,7 +10,7 @@ invariant-loop-count g l = record {
   same_length : length l.frames ≡ length l.fn.frames;
   last : l.last ≤ ROWS;
   rows : l.self.rows ≡ l.fn.self.rows;
-  walks : WalksWith (over_cached l.fn.self.rows l.confirmed (g.M.Memory.bytes l.memory)) l.fn.place (take l.count l.frames) l.here;
+  walks : WalksWith (over_cached l.fn.self.rows l.confirmed (g.M.Memory.bytes l.memory)) l.fn.place (take l.count l.frames) l.place;
   rest : drop l.count l.frames ≡ drop l.count l.fn.frames;
 }
 
