@@ -193,7 +193,7 @@ static uint64_t grows(int depth) {
     return sum + 1;
 }
 
-/* With gcc, the CFA of such a function is in memory, which is an expression's. */
+/* With gcc, the CFA of such a function is in memory, which is an expression's. There is a kind of row for it. */
 static uint64_t realigns(int depth) {
     uint64_t aligned[8] __attribute__((aligned(64)));
     use(aligned);
@@ -259,12 +259,14 @@ static uint64_t raises_elsewhere(int depth) {
 
 static int stacks, lazy_stubs;
 static int least_steps; /* those that the stack's frames must take by a cursor */
+static int steps_taken;
 
 static uint64_t compares_here(void) {
     TAKE_FRAMES();
     const dwcheck_block block = own_stack(here.stack_pointer);
     const struct stack_walk w = compare_from(here, &block, 1, 0);
     IS(w.steps >= least_steps, 1);
+    steps_taken = w.steps;
     return (uint64_t)stacks++;
 }
 
@@ -342,6 +344,21 @@ static void stacks_are_those_of_glibc(void) {
     try_stack(shapes, SHAPES, compares_at_a_call);
 }
 
+static int steps_of(const function *called, int depth) {
+    least_steps = 0;
+    try_stack(called, depth, compares_here);
+    return steps_taken;
+}
+
+/* Under sanitizers, a function keeps such a CFA in places that have no kind. */
+static void realigned_stacks_take_no_step_of_a_cursor(void) {
+#ifndef __SANITIZE_ADDRESS__
+    static function const usual[] = {plain, saves, plain, saves_all, plain};
+    static function const realigned[] = {realigns, saves, realigns, saves_all, realigns};
+    IS(steps_of(realigned, 5), steps_of(usual, 5));
+#endif
+}
+
 static void *runs(void *data) {
     (void)data;
     stacks_are_those_of_glibc();
@@ -372,6 +389,7 @@ int main(int argc, char **argv) {
     glibc_backtrace(theirs, 1); /* it loads a library */
     dl_iterate_phdr(add_module, NULL);
     stacks_are_those_of_glibc();
+    realigned_stacks_take_no_step_of_a_cursor();
     stacks_of_threads_are_those_of_glibc();
     stacks_of_handlers_are_those_of_glibc();
     printf("%d stacks are glibc's, %d with a lazy stub: %d wrong\n", stacks, lazy_stubs, wrong);
