@@ -60,7 +60,7 @@ pub fn assumed_state(machine: &Machine, row: &Row<'_>, fde: &Fde, offset: u32) -
     let address = fde.begin.wrapping_add(u64::from(offset));
     let mut assumption = Assumption { machine, offset, state: State::unknown(true) };
     assumption.assume_cfa(row, address);
-    assumption.assume_registers(row, fde.is_signed(address));
+    assumption.assume_registers(row, Some(Value::signed_by_cfa(fde.key)).filter(|_| fde.is_signed(address)));
     if assumption.state.get(machine.stack_pointer) == Value::Unknown {
         assumption.base_of(machine.stack_pointer);
     }
@@ -118,11 +118,11 @@ impl Assumption<'_> {
         self.state.set(pointer, distance.map_or(Value::Unknown, |distance| Value::from_cfa(distance.wrapping_neg())));
     }
 
-    fn assume_registers(&mut self, row: &Row<'_>, is_signed: bool) {
+    fn assume_registers(&mut self, row: &Row<'_>, signed: Option<Value>) {
         let callee_saved = self.machine.callee_saved.iter().copied();
         for register in callee_saved.chain([self.machine.return_address]) {
             let is_return_address = register == self.machine.return_address;
-            let value = if is_signed && is_return_address { Value::SIGNED_BY_CFA } else { Value::Entry(register) };
+            let value = signed.filter(|_| is_return_address).unwrap_or(Value::Entry(register));
             match row.rule(register) {
                 None | Some(Rule::SameValue) => {
                     let is_free = self.state.get(register) == Value::Unknown;

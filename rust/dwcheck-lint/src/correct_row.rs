@@ -1,5 +1,6 @@
 //! What the code says where a row is wrong.
 
+use crate::instruction::Key;
 use crate::machine::{Machine, MOST_CALLEE_SAVED};
 use crate::register::Register;
 use crate::state::State;
@@ -20,8 +21,8 @@ pub enum Location {
 pub struct CorrectRow {
     /// The CFA, as a register plus an offset, if a register has a known distance from it.
     pub cfa: Option<(Register, i64)>,
-    /// Where the return address is, as far as is known, and whether it is signed there.
-    pub return_address: Option<(Location, bool)>,
+    /// Where the return address is, as far as is known, and what it is there: the entry value, or that signed.
+    pub return_address: Option<(Location, Value)>,
     /// Where the entry value of each register is that a function has to give back, as far as is known.
     pub callee_saved: [Option<Location>; MOST_CALLEE_SAVED],
 }
@@ -45,9 +46,10 @@ impl CorrectRow {
         for (place, register) in callee_saved.iter_mut().zip(machine.callee_saved) {
             *place = find(*register, Value::Entry(*register));
         }
-        let (address, plain) = (machine.return_address, Value::Entry(machine.return_address));
-        let signed = || find(address, Value::SIGNED_BY_CFA).map(|place| (place, true));
-        let return_address = find(address, plain).map(|place| (place, false)).or_else(signed);
+        let address = machine.return_address;
+        let signed = [None, Some(Key::A), Some(Key::B)].map(Value::signed_by_cfa);
+        let mut values = [Value::Entry(address)].into_iter().chain(signed);
+        let return_address = values.find_map(|value| Some((find(address, value)?, value)));
         CorrectRow { cfa: preferred.filter_map(distance).next(), return_address, callee_saved }
     }
 }

@@ -3,12 +3,14 @@
 use crate::correct_row::Location;
 use crate::coverage::{Coverage, REASONS};
 use crate::finding::Finding;
+use crate::instruction::Key;
 use crate::judge::{Facts, WrongCfa, WrongRule};
 use crate::judging::Way;
 use crate::machine::Machine;
 use crate::module::Module;
 use crate::register::Register;
 use crate::table::{Cfa, Row, Rule};
+use crate::value::Value;
 use std::fmt::{self, Write};
 
 /// Names an address: the function, with an offset after it if there is one.
@@ -87,13 +89,16 @@ impl Finding<'_> {
             Some(WrongCfa::Clobbered) => "the register of the row's CFA has been overwritten".to_string(),
             Some(WrongCfa::Restored) => "the register of the row's CFA has the caller's value".to_string(),
             Some(WrongCfa::Number) => "the row's CFA is a number".to_string(),
-            None if self.mark.verdict.return_address == Some(WrongRule::Signing) => {
-                match self.mark.correct_row.return_address {
-                    Some((_, true)) => "the row says that the return address isn't signed".to_string(),
-                    _ => "the row says that the return address is signed".to_string(),
+            None => match (self.mark.verdict.return_address, self.mark.correct_row.return_address) {
+                (Some(WrongRule::Signing), Some((_, Value::SignedReturn { .. }))) => {
+                    "the row says that the return address isn't signed".to_string()
                 }
-            }
-            None => "the row's return address is wrong".to_string(),
+                (Some(WrongRule::Signing), _) => "the row says that the return address is signed".to_string(),
+                (Some(WrongRule::Key(key)), _) => {
+                    format!("the table says that the return address is signed with key {}", key.other())
+                }
+                _ => "the row's return address is wrong".to_string(),
+            },
         }
     }
 
@@ -116,8 +121,13 @@ impl Finding<'_> {
         let mut places: Vec<_> = wrong.map(|(_, (register, location))| place(*register, *location)).collect();
         if self.mark.verdict.wrong.has(Facts::RETURN_ADDRESS) {
             let text = place(machine.return_address, correct_row.return_address.map(|(location, _)| location));
-            let is_signed = correct_row.return_address.map_or(false, |(_, is_signed)| is_signed);
-            places.insert(0, if is_signed { text + " signed" } else { text });
+            let is_signed = matches!(correct_row.return_address, Some((_, Value::SignedReturn { .. })));
+            let signature = match self.mark.verdict.return_address {
+                Some(WrongRule::Key(key)) if is_signed => format!(" signed with key {}", key),
+                _ if is_signed => " signed".to_string(),
+                _ => String::new(),
+            };
+            places.insert(0, text + &signature);
         }
         places.join(" ")
     }
@@ -143,6 +153,10 @@ impl Finding<'_> {
             }
             _ if self.mark.verdict.return_address == Some(WrongRule::Signing) => {
                 Some(".cfi_negate_ra_state".to_string())
+            }
+            // For key A there is no directive.
+            _ if self.mark.verdict.return_address == Some(WrongRule::Key(Key::B)) => {
+                Some(".cfi_b_key_frame".to_string())
             }
             _ => None,
         }

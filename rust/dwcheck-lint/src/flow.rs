@@ -6,7 +6,7 @@ use crate::callees::{leads_elsewhere, Callees};
 use crate::code::{Code, Lists, USUAL_BYTES};
 use crate::error::Error;
 use crate::follow::{Follow, Tally};
-use crate::instruction::Effect;
+use crate::instruction::{Effect, Key};
 use crate::judge::{why_unjudged, Judge, Said, Verdict};
 use crate::module::Module;
 use crate::register::Registers;
@@ -370,8 +370,9 @@ impl<'m, 'c> Flow<'m, 'c> {
 
     /// The same, for a row that says itself whether the return address is signed.
     pub fn verdict_as(&self, row: &Row<'_>, state: &State, address: u64, is_signed: bool) -> Verdict {
-        let (machine, convention) = (self.module.machine, self.module.convention);
-        Judge { machine, convention, state, stores: &self.stores, said: self.said, is_signed }.verdict(row, address)
+        let (machine, convention, key) = (self.module.machine, self.module.convention, self.key(address));
+        Judge { machine, convention, state, stores: &self.stores, said: self.said, is_signed, key }
+            .verdict(row, address)
     }
 
     /// Whether the return address is signed at an address of this FDE or of another, as they say.
@@ -379,6 +380,14 @@ impl<'m, 'c> Flow<'m, 'c> {
         match self.fde.contains(address) {
             true => self.fde.is_signed(address),
             false => self.module.is_signed(address),
+        }
+    }
+
+    /// With which key it is signed there, as the FDE of the address says.
+    fn key(&self, address: u64) -> Option<Key> {
+        match self.fde.contains(address) {
+            true => self.fde.key,
+            false => self.module.key(address),
         }
     }
 

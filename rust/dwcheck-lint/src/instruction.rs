@@ -4,6 +4,7 @@
 //! The decoder of a processor makes these. Nothing else knows any instruction by its bytes.
 
 use crate::register::{Register, Registers};
+use std::fmt;
 use std::num::NonZeroU8;
 
 /// An instruction.
@@ -75,6 +76,35 @@ pub struct Scale {
     pub shift: u8,
     /// Whether its lowest bytes are taken as a signed number.
     pub is_extended: bool,
+}
+
+/// The key with which an address of an instruction is signed (aarch64).
+#[derive(Clone, Copy, Debug, PartialEq, Eq)]
+pub enum Key {
+    /// Key A.
+    A,
+    /// Key B.
+    B,
+}
+
+impl Key {
+    /// The other key.
+    #[must_use]
+    pub fn other(self) -> Key {
+        match self {
+            Key::A => Key::B,
+            Key::B => Key::A,
+        }
+    }
+}
+
+impl fmt::Display for Key {
+    fn fmt(&self, f: &mut fmt::Formatter<'_>) -> fmt::Result {
+        f.pad(match self {
+            Key::A => "A",
+            Key::B => "B",
+        })
+    }
 }
 
 /// What is done with a number in a register.
@@ -171,9 +201,10 @@ pub enum Effect {
     Align { to: Register, from: Register, mask: Option<i64> },
     /// Signs the address in a register by the value of another one, which the stack pointer has to be for a
     /// return address. `by` is `None` if it is something else.
-    Sign { to: Register, by: Option<Register> },
-    /// Takes the signature off an address, and checks that it is the one of the value of another register.
-    Authenticate { to: Register, by: Option<Register> },
+    Sign { to: Register, by: Option<Register>, key: Key },
+    /// Takes the signature off an address, and checks that it is the one of this key and of the value of another
+    /// register.
+    Authenticate { to: Register, by: Option<Register>, key: Key },
     /// Takes the signature off an address, if it has one.
     Strip { to: Register },
     /// Loads a whole register.

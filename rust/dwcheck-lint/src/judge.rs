@@ -1,6 +1,7 @@
 //! Compares a row with a state of the code: the CFA, the return address, each register and its slot.
 
 use crate::expression::Context;
+use crate::instruction::Key;
 use crate::machine::{Machine, MOST_CALLEE_SAVED};
 use crate::module::Convention;
 use crate::register::{Register, Registers};
@@ -98,6 +99,8 @@ pub enum WrongRule {
     /// The return address is there, and it is signed though the row says that it isn't, or the other way
     /// around.
     Signing,
+    /// The return address is there, and it is signed with this key, while the table names the other one.
+    Key(Key),
 }
 
 /// The result of comparing a row with what is known.
@@ -184,6 +187,8 @@ pub struct Judge<'a> {
     pub said: Said,
     /// Whether the row says that the return address is signed.
     pub is_signed: bool,
+    /// With which key, if the table says that.
+    pub key: Option<Key>,
 }
 
 impl Judge<'_> {
@@ -328,9 +333,11 @@ impl Judge<'_> {
             Value::Entry(other) if other == register && is_signed => Err(WrongRule::Signing),
             Value::Entry(other) if other == register => Ok(Some(())),
             // No table says that a return address is signed by something else than the CFA.
-            Value::SignedReturn { by } if by != 0 => Ok(None),
-            Value::SIGNED_BY_CFA if register == self.machine.return_address && is_signed => Ok(Some(())),
-            Value::SIGNED_BY_CFA if register == self.machine.return_address => Err(WrongRule::Signing),
+            Value::SignedReturn { by, .. } if by != 0 => Ok(None),
+            Value::SignedReturn { .. } if register != self.machine.return_address => Err(wrong),
+            Value::SignedReturn { .. } if !is_signed => Err(WrongRule::Signing),
+            Value::SignedReturn { key: Some(key), .. } if self.key == Some(key.other()) => Err(WrongRule::Key(key)),
+            Value::SignedReturn { .. } => Ok(Some(())),
             _ => Err(wrong),
         }
     }

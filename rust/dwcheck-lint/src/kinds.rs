@@ -71,6 +71,8 @@ kinds! {
     AuthenticationWithoutRow = "authentication without row",
     /// The row says in another way that the return address is signed where it isn't, or that it isn't where it is.
     ReturnAddressSigning = "return address signing",
+    /// The return address was signed with the other key than the one that the table names.
+    WrongKey = "wrong key",
     /// The row says that a register has its value, and it was overwritten.
     RegisterOverwritten = "register overwritten",
     /// The register was never saved where the row says.
@@ -109,6 +111,7 @@ impl Kind {
         let is_in_register = module.machine.return_slot.is_none();
         match group.mark.verdict.return_address {
             Some(WrongRule::Signing) => Kind::of_signing(module, group),
+            Some(WrongRule::Key(_)) => Kind::WrongKey,
             Some(WrongRule::Changed) if is_in_register => Kind::ReturnAddressOverwritten,
             Some(WrongRule::NeverSaved) if is_in_register => Kind::ReturnAddressNeverSaved,
             _ => Kind::ReturnAddress,

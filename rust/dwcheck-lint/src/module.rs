@@ -1,6 +1,6 @@
 //! A program or a library: its code, its FDEs, and what its pointers name.
 
-use crate::instruction::Instruction;
+use crate::instruction::{Instruction, Key};
 use crate::machine::Machine;
 use crate::table::{Fde, Rows};
 use std::collections::HashMap;
@@ -53,6 +53,11 @@ impl<'a> Module<'a> {
     /// Whether the return address is signed at an address, as the FDEs say.
     pub fn is_signed(&self, address: u64) -> bool {
         self.fde_at(address).map_or(false, |fde| self.fdes[fde].is_signed(address))
+    }
+
+    /// With which key the return address is signed, as the FDE of an address says.
+    pub fn key(&self, address: u64) -> Option<Key> {
+        self.fde_at(address).and_then(|fde| self.fdes[fde].key)
     }
 
     /// The bytes from an address to the end of what the file has there. Empty if it has none.

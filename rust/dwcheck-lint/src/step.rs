@@ -1,6 +1,6 @@
 //! How an instruction changes what is known: it moves, adds, loads, stores, pushes or pops.
 
-use crate::instruction::{Effect, Entry, MemoryOperand, Scale, Transfer};
+use crate::instruction::{Effect, Entry, Key, MemoryOperand, Scale, Transfer};
 use crate::machine::Machine;
 use crate::register::{Register, Registers};
 use crate::state::State;
@@ -53,8 +53,8 @@ impl Step<'_> {
             Effect::SubtractRegister { to, from, by } => self.subtract_register(to, from, by),
             Effect::Derive { to, from } => self.derive(to, self.state.get(from)),
             Effect::Align { to, from, mask } => self.align(to, from, mask),
-            Effect::Sign { to, by } => self.sign(to, by, true),
-            Effect::Authenticate { to, by } => self.sign(to, by, false),
+            Effect::Sign { to, by, key } => self.sign(to, by, key),
+            Effect::Authenticate { to, by, key } => self.authenticate(to, by, key),
             Effect::Strip { to } if matches!(self.state.get(to), Value::SignedReturn { .. }) => {
                 self.state.set(to, self.return_address());
             }
@@ -155,14 +155,24 @@ impl Step<'_> {
         Value::Entry(self.machine.return_address)
     }
 
-    /// Signs or authenticates the return address. What it is signed by has to be at a known distance from the CFA,
-    /// as the stack pointer is where a function begins. Other addresses aren't followed.
-    fn sign(&mut self, to: Register, by: Option<Register>, is_signing: bool) {
+    /// Signs the return address. What it is signed by has to be at a known distance from the CFA, as the stack pointer
+    /// is where a function begins. Other addresses aren't followed.
+    fn sign(&mut self, to: Register, by: Option<Register>, key: Key) {
         let by = by.and_then(|by| self.state.get(by).cfa_offset());
-        let (plain, signed) = (self.return_address(), by.map(|by| Value::SignedReturn { by }));
-        let (before, after) = if is_signing { (Some(plain), signed) } else { (signed, Some(plain)) };
+        let signed = by.map(|by| Value::SignedReturn { by, key: Some(key) });
         match self.state.get(to) {
-            value if Some(value) == before => self.state.set(to, after.unwrap_or(Value::Unknown)),
+            value if value == self.return_address() => self.state.set(to, signed.unwrap_or(Value::Unknown)),
+            Value::Entry(_) | Value::SignedReturn { .. } => self.state.set(to, Value::Unknown),
+            _ => {}
+        }
+    }
+
+    /// Authenticates the return address. It is the same again if it was signed so.
+    fn authenticate(&mut self, to: Register, by: Option<Register>, key: Key) {
+        let by = by.and_then(|by| self.state.get(by).cfa_offset());
+        let is_so = |before: i64, with: Option<Key>| by == Some(before) && with.map_or(true, |with| with == key);
+        match self.state.get(to) {
+            Value::SignedReturn { by, key } if is_so(by, key) => self.state.set(to, self.return_address()),
             Value::Entry(_) | Value::SignedReturn { .. } => self.state.set(to, Value::Unknown),
             _ => {}
         }

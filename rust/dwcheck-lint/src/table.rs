@@ -1,6 +1,7 @@
 //! Unwind tables, as the lint takes them: FDEs and their rows.
 
 use crate::error::Error;
+use crate::instruction::Key;
 use crate::register::Register;
 use dwcheck_types::row;
 use std::ops::Range;
@@ -23,6 +24,8 @@ pub struct Fde {
     pub argument_bytes: Vec<(u64, u64)>,
     /// At which addresses the return address is signed (`DW_CFA_AARCH64_negate_ra_state`), ascending.
     pub signed: Vec<Range<u64>>,
+    /// With which key it is signed there. `None` if the table doesn't say that, as `.debug_frame`.
+    pub key: Option<Key>,
 }
 
 /// A range of code whose calls go on at a landing pad if they throw.

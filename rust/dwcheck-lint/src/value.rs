@@ -1,6 +1,6 @@
 //! What is known of a value: the lattice of the data flow, in which values are joined, merged, derived, masked.
 
-use crate::instruction::Entry;
+use crate::instruction::{Entry, Key};
 use crate::register::Register;
 
 /// What an address is relative to.
@@ -23,8 +23,9 @@ pub enum Value {
     Clobbered,
     /// The value that a register had when the function was entered.
     Entry(Register),
-    /// The return address that the function was entered with, signed by the CFA plus a number.
-    SignedReturn { by: i64 },
+    /// The return address that the function was entered with, signed by the CFA plus a number, and with a key, if that
+    /// is known.
+    SignedReturn { by: i64, key: Option<Key> },
     /// An address: a base plus an offset.
     Address { base: Base, offset: i64 },
     /// A number, or an address in the program.
@@ -90,7 +91,9 @@ impl Base {
 
 impl Value {
     /// The return address as tables say that it is signed: by the CFA.
-    pub const SIGNED_BY_CFA: Value = Value::SignedReturn { by: 0 };
+    pub fn signed_by_cfa(key: Option<Key>) -> Value {
+        Value::SignedReturn { by: 0, key }
+    }
 
     /// An address relative to the CFA.
     pub fn from_cfa(offset: i64) -> Value {

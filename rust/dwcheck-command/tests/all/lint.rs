@@ -389,6 +389,68 @@ fn nothing_is_found_in_programs_that_sign() {
     }
 }
 
+/// A function that signs its return address with a key, of whose table the lines `named` say with which.
+fn signed_with(key: char, named: &str) -> String {
+    format!(
+        ".text\n.globl f\n.type f, @function\nf: .cfi_startproc\n{1} paci{0}sp\n .cfi_negate_ra_state\n mov x0, #1\n \
+         auti{0}sp\n .cfi_negate_ra_state\n ret\n .cfi_endproc\n",
+        key, named
+    )
+}
+
+/// The table names the other key than that with which the code signs. `.debug_frame` names none.
+#[test]
+fn keys_that_tables_do_not_name() {
+    if !has("aarch64-linux-gnu-gcc") {
+        return;
+    }
+    let folder = Folder::new("lint-key");
+    for (text, said, right) in [
+        (signed_with('b', ""), 'A', "B; right would be: .cfi_b_key_frame"),
+        (signed_with('a', " .cfi_b_key_frame\n"), 'B', "A"),
+    ] {
+        folder.assemble("aarch64-linux-gnu-gcc", &text);
+        for (file, place) in [("a.o", ".text+0x4"), ("a.so", "0x")] {
+            let ran = dwcheck_elf(&folder, &format!("lint {}", file));
+            let lines = ran.lines();
+            assert!(lines[0].starts_with(&format!("{}: wrong key at f+0x4 ({}", file, place)), "{}", ran.out);
+            let what = ": backtrace broken: the table says that the return address is signed with key ";
+            assert!(lines[0].ends_with(&format!("{}{}, 2 addresses", what, said)), "{}", ran.out);
+            assert_eq!(lines[4].trim(), format!("code: x30=x30 signed with key {}", right));
+        }
+        folder.assemble("aarch64-linux-gnu-gcc", format!(".cfi_sections .debug_frame\n{}", text));
+        let ran = dwcheck_elf(&folder, "lint a.o a.so");
+        assert_eq!((ran.status, ran.error.as_str()), (0, ""), "{}", ran.out);
+    }
+}
+
+/// What gcc writes with each key. If the table names the other one, each function that signs is found.
+#[test]
+fn the_other_key_in_programs_that_sign() {
+    if !has("aarch64-linux-gnu-gcc") {
+        return;
+    }
+    let folder = Folder::new("lint-keys");
+    folder.write("a.c", C);
+    for level in ["-O0", "-O1", "-O2", "-O3", "-Os"] {
+        for (key, option) in [('a', ""), ('b', "+b-key")] {
+            let options = format!("-w {} -mbranch-protection=pac-ret{}", level, option);
+            folder.run(&format!("aarch64-linux-gnu-gcc {} -S a.c && aarch64-linux-gnu-gcc -c a.s -o right.o", options));
+            let signs = folder.run(&format!("aarch64-linux-gnu-objdump -d right.o | grep -c 'paci{}sp'", key));
+            let augmentations = folder.run("readelf --debug-dump=frames right.o | grep 'Augmentation: '");
+            assert_eq!(augmentations.contains("B\""), key == 'b', "{}: {}", options, augmentations);
+            let named = folder.run("cat a.s").replace("\t.cfi_b_key_frame\n", "");
+            let other = named.replace(".cfi_startproc\n", ".cfi_startproc\n\t.cfi_b_key_frame\n");
+            folder.write("a.s", if key == 'a' { other } else { named });
+            folder.run("aarch64-linux-gnu-gcc -c a.s -o wrong.o");
+            let (right, wrong) = (dwcheck_elf(&folder, "lint right.o"), dwcheck_elf(&folder, "lint wrong.o"));
+            assert_eq!((right.status, right.error.as_str()), (0, ""), "{}: {}", options, right.out);
+            let found = wrong.out.matches(": wrong key at ").count();
+            assert_eq!((wrong.status, found.to_string().as_str()), (1, signs.trim()), "{}: {}", options, wrong.out);
+        }
+    }
+}
+
 /// A function that keeps rbx in another register for a while.
 const KEEPER: &str = ".globl f
 .type f, @function

@@ -225,6 +225,26 @@ impl<'data> Frames<'data> {
         }
     }
 
+    /// The range of offsets of the letters of a CIE's augmentation, which only `.eh_frame` has. The string follows the id,
+    /// which has four bytes there, and the version.
+    pub(crate) fn augmentation(&self, cie: &Record) -> Range<usize> {
+        let bytes = &self.section.source.bytes;
+        let begin = match range_of_body(bytes, cie.offset, self.target()) {
+            Some(body) if self.section.format.is_eh_frame() => body.start + 5,
+            _ => return 0..0,
+        };
+        let rest = bytes.get(begin..).unwrap_or(&[]);
+        begin..begin + rest.iter().position(|byte| *byte == 0).unwrap_or(rest.len())
+    }
+
+    /// The offsets of the CIEs whose augmentation says that return addresses are signed with key B (aarch64).
+    pub(crate) fn cies_of_key_b(&self) -> HashSet<u64> {
+        let bytes = &self.section.source.bytes;
+        let names_b = |cie: &&Record| cie.is_cie() && bytes[self.augmentation(cie)].contains(&b'B');
+        let cies = self.records.iter().filter(|_| self.section.format.is_aarch64());
+        cies.filter(names_b).map(|cie| cie.offset).collect()
+    }
+
     /// The record that a fault of the library is in. An offset can be both the end of one record and the
     /// beginning of the next: only an overlap is reported where its FDE begins.
     pub fn record_of(&self, fault: &Fault) -> Option<&Record> {

@@ -14,6 +14,7 @@ use crate::elf::image::{Image, Part};
 use crate::elf::program::Program;
 use dwcheck::{CfaRule, Process};
 use dwcheck_lint::error::Error;
+use dwcheck_lint::instruction::Key;
 use dwcheck_lint::landings::landings;
 use dwcheck_lint::machine::Machine;
 use dwcheck_lint::module::{Convention, Module, Segment};
@@ -178,9 +179,12 @@ fn eh_frame_fdes(frames: &Frames<'_>, module: &Module<'_>, signs: &Signs) -> Vec
     let bases = frames.format().bases();
     let mut section = gimli::EhFrame::new(&bytes, frames.target().gimli_order());
     section.set_address_size(frames.target().address_size.bytes());
+    let cies_of_key_b = frames.cies_of_key_b();
     let fde = |record: &Record| {
-        let (begin, end, is_signal) = match record.kind {
-            Kind::Fde { begin, end, is_signal_frame, .. } => (begin, end, is_signal_frame),
+        let (begin, end, is_signal, key) = match record.kind {
+            Kind::Fde { cie, begin, end, is_signal_frame, .. } => {
+                (begin, end, is_signal_frame, key_of(cies_of_key_b.contains(&cie)))
+            }
             _ => return None,
         };
         let offset = (record.offset as usize).into();
@@ -198,9 +202,19 @@ fn eh_frame_fdes(frames: &Frames<'_>, module: &Module<'_>, signs: &Signs) -> Vec
             landings,
             argument_bytes,
             signed: signs.of_fde(begin, end),
+            key: Some(key),
         })
     };
     frames.used().filter_map(fde).collect()
+}
+
+/// The key with which return addresses are signed.
+fn key_of(is_b: bool) -> Key {
+    if is_b {
+        Key::B
+    } else {
+        Key::A
+    }
 }
 
 /// From which address on how many bytes of arguments are on the stack.

@@ -387,7 +387,27 @@ fn a_late_row_of_an_authentication() {
     let text = SIGNS.replace("WRONG .cfi_negate_ra_state\n", "").replace("RIGHT ", "");
     let text = text.replace("autiasp\n    .cfi", "autiasp\n    RIGHT .cfi");
     AARCH64.planted("authenticated", "authentication without row", &text);
-    AARCH64.planted("key", "authentication without row", &text.replace("iasp", "ibsp").replace("autiasp", "autibsp"));
+    AARCH64.planted("key", "authentication without row", &by_key_b(&text));
+}
+
+/// The same function with the other key.
+fn by_key_b(text: &str) -> String {
+    format!(".cfi_b_key_frame\n{}", text.replace("iasp", "ibsp"))
+}
+
+/// The table names the other key than that with which the code signs, or none, which means A.
+#[test]
+fn keys_that_tables_do_not_name() {
+    let text = SIGNS.replace("    WRONG .cfi_negate_ra_state\n", "").replace("RIGHT ", "");
+    AARCH64.planted("a-for-b", "wrong key", &format!("RIGHT {}", by_key_b(&text)));
+    AARCH64.planted("b-for-a", "wrong key", &format!("WRONG .cfi_b_key_frame\n{}", text));
+}
+
+/// An address that is authenticated with the other key isn't the return address any more.
+#[test]
+fn keys_that_differ_in_a_function() {
+    let text = SIGNS.replace("    WRONG .cfi_negate_ra_state\n", "").replace("RIGHT ", "").replace("autia", "autib");
+    AARCH64.quiet("both-keys", &text, "");
 }
 
 /// No row speaks of the signature.
@@ -520,6 +540,9 @@ fn signatures_in_other_parts() {
         f.cold: blr x1
         brk #1";
     AARCH64.planted("signed-part", "return address signing", text);
+    // The same with key B, which the FDE of the part doesn't name.
+    let text = by_key_b(text).replace(".cfi_startproc", ".cfi_startproc\nRIGHT .cfi_b_key_frame");
+    AARCH64.planted("part-of-other-key", "wrong key", &text.replace("RIGHT .cfi_negate", ".cfi_negate"));
 }
 
 /// What gcc writes with return addresses that are signed.
@@ -536,11 +559,17 @@ fn c_with_signed_return_addresses() {
         {
             folder.run(&format!("{} -w {} -mbranch-protection{} -S a.c -o out.s", GCC, level, option));
             let text = folder.text("out.s");
-            let readable = readable(&text).replace(".cfi_b_key_frame", "");
-            assert!(readable != text, "{} {}", level, option);
-            folder.write("out.s", &readable);
+            let readable_text = readable(&text);
+            assert!(readable_text != text, "{} {}", level, option);
+            folder.write("out.s", &readable_text);
             let Found { kinds, coverage } = found(&folder, &format!("{} out.s -o out", GCC));
             assert_eq!((kinds.len(), coverage.partly), (0, 0), "{} {}: {:?}", level, option, coverage);
+            if option == "=pac-ret+b-key" {
+                folder.write("out.s", &readable(&text.replace(".cfi_b_key_frame", "")));
+                let Found { kinds, .. } = found(&folder, &format!("{} out.s -o out", GCC));
+                let signs = text.matches("pacibsp").count();
+                assert_eq!(kinds, vec!["wrong key"; signs], "{}", level);
+            }
         }
     }
 }

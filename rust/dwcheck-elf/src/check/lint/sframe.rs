@@ -1,5 +1,6 @@
 //! Gives the lint the rows of an SFrame section.
 
+use super::key_of;
 use crate::cfi::row::{Cfa, Rule};
 use crate::cfi::sframe::{Function, Sframe, SframeRow};
 use dwcheck_lint::error::Error;
@@ -35,8 +36,8 @@ impl SframeRows {
             let Range { start: begin, end } = one.function.addresses();
             let same = others.binary_search_by_key(&begin, |fde| fde.begin).ok().and_then(|place| others.get(place));
             let signed = one.rows.iter().filter(|row| row.is_signed).map(|row| row.row.begin..row.row.end).collect();
-            let is_signal = one.function.is_signal_frame;
-            Fde { begin, end, is_signal, signed, ..same.cloned().unwrap_or_default() }
+            let (is_signal, key) = (one.function.is_signal_frame, Some(key_of(one.function.is_key_b)));
+            Fde { begin, end, is_signal, signed, key, ..same.cloned().unwrap_or_default() }
         };
         self.functions.iter().map(fde).collect()
     }

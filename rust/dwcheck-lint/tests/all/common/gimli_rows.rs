@@ -1,6 +1,7 @@
 //! The rows of programs, as gimli reads them.
 
 use dwcheck_lint::error::Error;
+use dwcheck_lint::instruction::Key;
 use dwcheck_lint::landings::landings;
 use dwcheck_lint::machine::Machine;
 use dwcheck_lint::module::{Convention, Module, Segment};
@@ -108,7 +109,8 @@ fn argument_bytes<'a>(header: &Header<'a>, section: &EhFrame<Bytes<'a>>, bases: 
             CallFrameInstruction::AdvanceLoc { delta } => {
                 address += u64::from(delta) * header.cie().code_alignment_factor();
             }
-            CallFrameInstruction::ArgsSize { size } if size != NEGATE => found.push((address, size)),
+            CallFrameInstruction::ArgsSize { size: NEGATE | KEY_B } => {}
+            CallFrameInstruction::ArgsSize { size } => found.push((address, size)),
             _ => {}
         }
     }
@@ -119,10 +121,26 @@ fn argument_bytes<'a>(header: &Header<'a>, section: &EhFrame<Bytes<'a>>, bases: 
 /// bytes of arguments that no code has.
 pub const NEGATE: u64 = 125;
 
-/// A program with `.cfi_negate_ra_state`, which gcc writes by the name that sparc has for it, as gimli can read it.
+/// The same in place of the letter B of an augmentation, in the FDE.
+const KEY_B: u64 = 124;
+
+/// A program with `.cfi_negate_ra_state`, which gcc writes by the name that sparc has for it, and `.cfi_b_key_frame`, as
+/// gimli can read it.
 pub fn readable(text: &str) -> String {
-    let escape = format!(".cfi_escape 0x2e, {}", NEGATE);
-    text.replace(".cfi_negate_ra_state", &escape).replace(".cfi_window_save", &escape)
+    let escape = |number| format!(".cfi_escape 0x2e, {}", number);
+    let readable = text.replace(".cfi_negate_ra_state", &escape(NEGATE)).replace(".cfi_window_save", &escape(NEGATE));
+    readable.replace(".cfi_b_key_frame", &escape(KEY_B))
+}
+
+/// With which key an FDE says that return addresses are signed.
+fn key<'a>(header: &Header<'a>, section: &EhFrame<Bytes<'a>>, bases: &BaseAddresses) -> Key {
+    let mut instructions = header.instructions(section, bases);
+    while let Ok(Some(instruction)) = instructions.next() {
+        if matches!(instruction, CallFrameInstruction::ArgsSize { size: KEY_B }) {
+            return Key::B;
+        }
+    }
+    Key::A
 }
 
 /// At which addresses the return address is signed.
@@ -204,8 +222,8 @@ pub fn module(data: &[u8]) -> Module<'_> {
         };
         let argument_bytes = argument_bytes(header, &frames, &bases);
         let (end, is_signal) = (begin + header.len(), header.is_signal_trampoline());
-        let signed = signed(header, &frames, &bases);
-        Fde { begin, end, is_signal, is_called: false, landings, argument_bytes, signed }
+        let (signed, key) = (signed(header, &frames, &bases), Some(key(header, &frames, &bases)));
+        Fde { begin, end, is_signal, is_called: false, landings, argument_bytes, signed, key }
     };
     let fdes = headers.iter().map(fde).collect();
     let rows = GimliRows { machine, section: frames, bases, headers, context: RefCell::default() };
