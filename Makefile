@@ -71,7 +71,7 @@ packages:
 ifeq ($(ARCH),x86_64)
 	@tools/packages.sh install $(groups)
 else
-	@tools/packages.sh install $(groups) arm64
+	@tools/packages.sh install $(groups) arm64 arm64_run
 	@tools/packages.sh install_arm64
 endif
 

@@ -5,7 +5,8 @@
 #   tools/packages.sh missing_arm64     prints arm64's libraries, unless they are in build/arm64-root
 #   tools/packages.sh install_arm64     unpacks them there, and installs nothing
 # The groups: `rust`, the libraries that dwcheck-elf uses; `cargo`; `arm64`, the cross compiler for
-# aarch64; and `test`, what `make test` needs besides. If packages can't be installed, `install` says
+# aarch64; `arm64_run`, what runs its programs here, which write their completions for `make dist` and
+# debian/; and `test`, what `make test` needs besides. If packages can't be installed, `install` says
 # in one line what to do, and its status is 1. Then none has been installed.
 set -u
 
@@ -17,16 +18,17 @@ rust="librust-object-dev librust-gimli-dev librust-addr2line-dev librust-flate2-
     libzydis-dev libzstd-dev liblz4-dev gcc"
 cargo="cargo rustc"
 arm64="gcc-aarch64-linux-gnu libc6-dev-arm64-cross binutils-aarch64-linux-gnu"
+arm64_run="qemu-user"
 # Those with which dwcheck-elf is linked and runs, two more whose rows tests read, and libunwind, which they compare with.
 arm64_libraries="libstd-rust-dev libzydis-dev libzydis4.0 libzycore1.4 libzstd-dev libzstd1 liblz4-dev liblz4-1
     libsqlite3-dev libsqlite3-0 liblzma-dev liblzma5 libc6 libgcc-s1 libstdc++6 libssl3 libunwind-dev libunwind8"
 # What bench/arm64/vm.sh needs, and bench/arm64/install.sh.
 vm="qemu-system-arm cpio"
-arm64_system="debootstrap qemu-user-static"
+arm64_system="debootstrap qemu-user-static debhelper $arm64_run"
 # The last two lines are assemblers of other machines, which tests of dwcheck-elf use.
 test="gcc g++ libc6-dev make binutils pkg-config python3 python3-pyelftools rust-clippy rustfmt valgrind libc6-dbg gdb elfutils xz-utils zstd lz4 sqlite3 parallel slurmctld slurmd slurm-client
-    libunwind-dev heaptrack libgoogle-perftools4 libgoogle-glog-dev xvfb libgstreamer1.0-0 strace clang clang-16 lld llvm golang-go gdb-multiarch qemu-user linux-perf libc6-dev-i386 lib32gcc-12-dev
-    $arm64 gcc-arm-linux-gnueabihf libc6-dev-armhf-cross
+    libunwind-dev heaptrack libgoogle-perftools4 libgoogle-glog-dev xvfb libgstreamer1.0-0 strace clang clang-16 lld llvm golang-go gdb-multiarch linux-perf libc6-dev-i386 lib32gcc-12-dev
+    $arm64 $arm64_run gcc-arm-linux-gnueabihf libc6-dev-armhf-cross
     $(printf 'binutils-%s-linux-gnu ' i686 alpha hppa mips powerpc powerpc64 powerpc64le riscv64 s390x sparc64)
     binutils-arm-linux-gnueabihf"
 
