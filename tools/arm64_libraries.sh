@@ -2,7 +2,8 @@
 # The shared libraries that programs for aarch64 need, among Debian's packages in build/arm64-root.
 #   tools/arm64_libraries.sh paths FILE..      prints the path of each
 #   tools/arm64_libraries.sh packages FILE..   prints their packages, each with its version
-#   tools/arm64_libraries.sh depends FILE..    prints those that the files name, as a Debian package depends on them
+#   tools/arm64_libraries.sh depends FILE..    prints those that the files name, as a Debian package depends on them that has
+#                                              these files
 set -eu
 top=$(dirname "$(dirname "$(realpath "$0")")")
 root=$top/build/arm64-root
@@ -39,6 +40,6 @@ shift
 case $command in
 paths) each paths_of "$@" ;;
 packages) packages_with $(each paths_of "$@" | sed 's|.*/||') ;;
-depends) packages_with $(each named "$@") | sed 's/ \([0-9]*:\)\?\([0-9.]*\).*/ (>= \1\2)/' | paste -sd , | sed 's/,/, /g' ;;
+depends) packages_with $(each named "$@" | grep -vxF "$(basename -a "$@")") | sed 's/ \([0-9]*:\)\?\([0-9.]*\).*/ (>= \1\2)/' | paste -sd , | sed 's/,/, /g' ;;
 *) echo "usage: tools/arm64_libraries.sh paths|packages|depends FILE.." >&2 && exit 2 ;;
 esac
