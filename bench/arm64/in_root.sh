@@ -24,7 +24,7 @@ stack_of_core() {
 uname -srm
 apt-get -q -o APT::Sandbox::User=root update > "$out/update" 2>&1 || tail -n 3 "$out/update"
 test_of "neither rt nor gcc is there" eval '! command -v rt && ! command -v gcc'
-test_of "apt-get install ./dwcheck*_arm64.deb" install ./dwcheck_*_arm64.deb
+test_of "apt-get install ./dwcheck*_arm64.deb" install ./dwcheck*_arm64.deb
 test_of "dwcheck-elf check /bin/ls" check_of_readme
 test_of "dwcheck-elf stack of a core file" stack_of_core
 test_of "the test programs of the packages" tests/programs

@@ -21,8 +21,8 @@ pub enum Location {
 pub struct CorrectRow {
     /// The CFA, as a register plus an offset, if a register has a known distance from it.
     pub cfa: Option<(Register, i64)>,
-    /// Where the return address is, as far as is known, and what it is there: the entry value, or that signed.
-    pub return_address: Option<(Location, Value)>,
+    /// Where the return address is, as far as is known, and whether it is signed there.
+    pub return_address: Option<(Location, bool)>,
     /// Where the entry value of each register is that a function has to give back, as far as is known.
     pub callee_saved: [Option<Location>; MOST_CALLEE_SAVED],
 }
@@ -46,10 +46,10 @@ impl CorrectRow {
         for (place, register) in callee_saved.iter_mut().zip(machine.callee_saved) {
             *place = find(*register, Value::Entry(*register));
         }
-        let address = machine.return_address;
-        let signed = [None, Some(Key::A), Some(Key::B)].map(Value::signed_by_cfa);
-        let mut values = [Value::Entry(address)].into_iter().chain(signed);
-        let return_address = values.find_map(|value| Some((find(address, value)?, value)));
+        let (address, plain) = (machine.return_address, Value::Entry(machine.return_address));
+        let mut with_each_key = [None, Some(Key::A), Some(Key::B)].into_iter().map(Value::signed_by_cfa);
+        let signed = || with_each_key.find_map(|value| find(address, value)).map(|place| (place, true));
+        let return_address = find(address, plain).map(|place| (place, false)).or_else(signed);
         CorrectRow { cfa: preferred.filter_map(distance).next(), return_address, callee_saved }
     }
 }

@@ -10,7 +10,6 @@ use crate::machine::Machine;
 use crate::module::Module;
 use crate::register::Register;
 use crate::table::{Cfa, Row, Rule};
-use crate::value::Value;
 use std::fmt::{self, Write};
 
 /// Names an address: the function, with an offset after it if there is one.
@@ -90,7 +89,7 @@ impl Finding<'_> {
             Some(WrongCfa::Restored) => "the register of the row's CFA has the caller's value".to_string(),
             Some(WrongCfa::Number) => "the row's CFA is a number".to_string(),
             None => match (self.mark.verdict.return_address, self.mark.correct_row.return_address) {
-                (Some(WrongRule::Signing), Some((_, Value::SignedReturn { .. }))) => {
+                (Some(WrongRule::Signing), Some((_, true))) => {
                     "the row says that the return address isn't signed".to_string()
                 }
                 (Some(WrongRule::Signing), _) => "the row says that the return address is signed".to_string(),
@@ -121,7 +120,7 @@ impl Finding<'_> {
         let mut places: Vec<_> = wrong.map(|(_, (register, location))| place(*register, *location)).collect();
         if self.mark.verdict.wrong.has(Facts::RETURN_ADDRESS) {
             let text = place(machine.return_address, correct_row.return_address.map(|(location, _)| location));
-            let is_signed = matches!(correct_row.return_address, Some((_, Value::SignedReturn { .. })));
+            let is_signed = correct_row.return_address.map_or(false, |(_, is_signed)| is_signed);
             let signature = match self.mark.verdict.return_address {
                 Some(WrongRule::Key(key)) if is_signed => format!(" signed with key {}", key),
                 _ if is_signed => " signed".to_string(),
