@@ -17,6 +17,19 @@ for library in /usr/lib/rustlib/*-linux-gnu; do
     [ "$(basename "$library")" = $target ] || ln -sfn "$library" "$sysroot/lib/rustlib/$(basename "$library")"
 done
 
+# Build scripts ask rustc what it compiles for the target, without flags. rustix makes its crate anew at each run if that fails.
+if [ ! -x "$sysroot/rustc" ]; then
+    cat > "$sysroot/rustc-$$" << END
+#!/bin/sh
+case "\$*" in
+*--sysroot*) exec rustc "\$@" ;;
+*) exec rustc "--sysroot=$sysroot" "\$@" ;;
+esac
+END
+    chmod +x "$sysroot/rustc-$$" && mv "$sysroot/rustc-$$" "$sysroot/rustc"
+fi
+export RUSTC=$sysroot/rustc
+
 export CARGO_TARGET_AARCH64_UNKNOWN_LINUX_GNU_LINKER=aarch64-linux-gnu-gcc
 export CARGO_TARGET_AARCH64_UNKNOWN_LINUX_GNU_RUSTFLAGS="--sysroot=$sysroot -L native=$root/usr/lib/aarch64-linux-gnu"
 export CARGO_TARGET_AARCH64_UNKNOWN_LINUX_GNU_RUNNER="qemu-aarch64 -L $root"
