@@ -52,7 +52,7 @@ compile() {
             -Wl,-rpath,/test -Wl,-z,lazy -o "$folder/test/$program" -pthread -ldl
     done
     cp "$built"/unwind/libunwind*.so.? "$folder/test/"
-    cp "$top/bench/arm64/in_vm.sh" "$top/bench/arm64/init" "$top/examples/c/compare.py" "$built/dwcheck" "$built/dwcheck-elf" "$folder/test/"
+    cp "$top/bench/arm64/in_vm.sh" "$top/bench/arm64/init" "$top/examples/c/compare.py" "$built/dwcheck-elf" "$folder/test/"
 }
 
 # What is kept: a program without a C library, whose return addresses are signed, and what keep.sh makes with it.
