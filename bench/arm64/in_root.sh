@@ -31,7 +31,7 @@ test_of "the test programs of the packages" tests/programs
 test_of "apt-get install ./libdwcheck*_arm64.deb" install ./libdwcheck*_arm64.deb
 test_of "apt-get install of a compiler" install gcc g++ libc6-dev pkg-config libunwind-dev
 test_of "the test compile-c of the packages" tests/compile-c
+[ ! -e /usr/lib/aarch64-linux-gnu/dwcheck/libunwind.so.8 ] || test_of "the test libunwind-path of the packages" tests/libunwind-path
 test_of "apt-get install of the crates and cargo" install ./librust-dwcheck-dev_*_arm64.deb cargo
 test_of "the test build-rust of the packages" tests/build-rust
-[ ! -e /usr/lib/aarch64-linux-gnu/dwcheck/libunwind.so.8 ] || test_of "the test libunwind-path of the packages" tests/libunwind-path
 exit $status
