@@ -171,7 +171,8 @@ enum { DWCHECK_DEBUG_FRAME = 0, DWCHECK_EH_FRAME = 1, DWCHECK_EH_FRAME_AARCH64 =
      or more. NO_ROOM may come although the table would fit, since rows share their rules, but not if `room` is at
      least 80, plus 80 for each FDE and each row, plus 16 for each register's rule in a row, plus 24 for each
      expression and its length. `room` doesn't bound the memory that checking and compiling use, nor the 16 bytes for
-     each stretch of code in which return addresses are signed (aarch64). */
+     each stretch of code in which return addresses are signed (aarch64). NO_MEMORY also comes if the sets of rules
+     that programs pass through, counted as above, would take more than `room` and more than 64 MB. */
 typedef struct dwcheck_module {
     const uint8_t *frame; size_t frame_length;
     uint64_t load_address, first, last, cookie; size_t room;

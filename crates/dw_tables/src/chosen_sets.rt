@@ -21,17 +21,20 @@ const SET_ROOM: usize = 64;
 
 const _: () = prove!(size_of::<RuleSpan>() + size_of::<u16>() <= SET_ROOM);
 
-/// The numbers of the rule sets that a table has, in the order in which the table numbers them.
+/// The rule sets that a table has. A rule set's index in `numbers` is its number in the table, and the
+/// element is its index in the list of all rule sets.
 #[derive(Drop)]
 pub struct ChosenSets {
     pub numbers: Vec<u32>,
-    /// For each rule set, its index in `numbers`, if it is there. A wrong index costs only memory.
+    /// For each rule set, its index in `numbers`, if it is there. A wrong index costs only memory and
+    /// room.
     places: Vec<u32>,
     /// How many bytes may still be used.
     pub room: usize,
 }
 
-/// Sets the element at index `place`. A list that is too short grows.
+/// Sets the element at index `place`. Missing elements before it become `u32::MAX`. Fails if memory
+/// can't be allocated.
 fn set_place(places: &mut Vec<u32>, place: u32, value: u32) -> Result<(), AllocError> {
     let place = place as usize;
     for _ in places.len()..place + 1 {
@@ -115,8 +118,9 @@ impl ChosenSets {
         Ok(number)
     }
 
-    /// The chosen rule sets of `sets`, in the order of their numbers, in arrays without spare
-    /// capacity (`RuleSets::cut`).
+    /// Copies the chosen rule sets of `sets`, in the order of their numbers, to arrays without spare
+    /// capacity (`RuleSets::cut`). Meanwhile `sets`, the copy and its cut copy are all in memory.
+    /// Fails if memory can't be allocated.
     pub fn into_sets(self, alloc: Global, sets: &RuleSets) -> Result<RuleSets, AllocError>
         requires { All (λ n. n < length sets.now) self.numbers.items }
         ensures { IfOk result (λ chosen. chosen ≡ map (set_numbered sets.now) self.numbers.items) }

@@ -83,8 +83,8 @@ impl Starts {
         self.far.clear();
     }
 
-    /// Copies the list into new arrays where much capacity is spare. The contract doesn't say so: it
-    /// speaks only of the elements.
+    /// Copies each array that has much spare capacity to a new one (`cut_spare`). The contract doesn't
+    /// say so: it speaks only of the elements.
     pub fn cut(&mut self, alloc: Global) -> Result<(), AllocError>
         ensures { self.new ≡ self.old }
     {

@@ -4,7 +4,7 @@ ghost use Rattle.std.specs.Prelude.{◌≡◌};
 
 use std::alloc::{AllocError, Global};
 
-/// A list may keep one element's room for this many elements.
+/// A list may keep one spare element for each 16 elements that it has.
 const ELEMENTS_FOR_ONE: usize = 16;
 
 /// Copies a list into a new array if much of its capacity is spare. The contract doesn't say so: it

@@ -93,7 +93,7 @@ impl GrowingTable {
 }
 
 /// Appends the rows of one more FDE. The FDE must not begin below `table.end`, where the rows so
-/// far end.
+/// far end. `spare` may be any state, and `near` is that of `begin_with_cie`.
 fn fill(
     frame: &CheckedFrame<'_>,
     fde: &FrameDescriptionEntry<'_>,
@@ -136,17 +136,18 @@ fn fill(
     Ok(())
 }
 
-/// For how many entries there is room in a new table: one for each row, and one for the end of each
-/// FDE, if the table may take that much. It affects only time.
+/// How many rows a section has, or `usize::MAX` if it has more.
+fn all_rows(frame: &CheckedFrame<'_>) -> usize {
+    usize::try_from(frame.row_count()).unwrap_or(usize::MAX)
+}
+
+/// How many entries a new table allocates: one for each row, one for the end of each FDE, and one
+/// more, but no more than `room` allows. A wrong number costs time or memory.
 fn most_entries(frame: &CheckedFrame<'_>, room: usize) -> usize {
-    let most = room / ROW_ROOM;
-    match usize::try_from(frame.row_count()) {
-        Ok(rows) => rows
-            .saturating_add(frame.fdes().len())
-            .saturating_add(1)
-            .min(most),
-        Err(_) => most,
-    }
+    all_rows(frame)
+        .saturating_add(frame.fdes().len())
+        .saturating_add(1)
+        .min(room / ROW_ROOM)
 }
 
 /// Fills a table with the rows of all FDEs, in order of address.
@@ -164,7 +165,7 @@ fn fill_all(alloc: Global, frame: &CheckedFrame<'_>, room: usize) -> Result<Grow
     };
     let mut table = GrowingTable {
         entries: TableEntries::with_capacity(alloc, base, most_entries(frame, room))?,
-        numbers: NumberedProgram::new(alloc, room, frame.fdes().len())?,
+        numbers: NumberedProgram::new(alloc, room, all_rows(frame))?,
         end: 0,
     };
     let mut spare = UnwindState::new();

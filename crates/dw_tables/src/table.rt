@@ -70,10 +70,11 @@ impl UnwindTable {
     /// and so has each gap after a row), 64 for each rule set and 16 for each of its register
     /// rules, and 24 for each expression and its length (clause `stored`). Each row of the table
     /// and each expression of the section is counted (clause `counted`). The arrays of the table
-    /// hold nothing else, except for 8 bytes: two counts of a look-up's search blocks. That they
-    /// have no spare capacity is tested, not proved. While the table is made, more memory is in use
-    /// that isn't counted: the spare capacity of arrays that grow, the copies that they are cut to,
-    /// and 16 KB by which equal rules are found again.
+    /// hold nothing else, except for 8 bytes, which are two counts of a look-up's search blocks, and
+    /// for spare capacity, at most one element for 16 (this isn't proved). While the table is made,
+    /// more memory is in use that isn't counted: the rule sets that the programs pass through, up
+    /// to 600 KB by which rule sets and steps are found again, spare capacity, and the copies that
+    /// arrays are cut to.
     ///
     /// `Ok(None)` means that the sum would be more than `room`, and that no table was made. The
     /// rows of a section of N bytes may take 700 times N bytes. The result is never `Ok(None)` if
@@ -82,8 +83,10 @@ impl UnwindTable {
     /// if no rows share rules, so a body that never shares rules meets the contract. That rows
     /// share rules is tested, not proved.
     ///
-    /// The only fault is `Memory`, with offset 0. Each program is run once. Compiling n rows takes
-    /// O(n log n) time.
+    /// The only fault is `Memory`, with offset 0. It also comes if the rule sets that the programs
+    /// pass through, between rows too, would take more than `room` and more than 64 MB. Each FDE's
+    /// program is read once. Compiling takes O(n log n) time, where n is the number of bytes of the
+    /// programs and of rows.
     pub fn compile(
         alloc: Global,
         frame: &CheckedFrame<'_>,

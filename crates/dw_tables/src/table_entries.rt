@@ -283,7 +283,7 @@ impl TableEntries {
         })
     }
 
-    /// Gives up spare capacity (`Starts::cut`), and makes the blocks that speed up look-ups.
+    /// Gives up most spare capacity (`Starts::cut`), and makes the blocks that speed up look-ups.
     pub fn finish(&mut self, alloc: Global) -> Result<(), AllocError>
         ensures { self.new ≡ self.old }
     {

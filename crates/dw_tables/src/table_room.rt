@@ -9,7 +9,8 @@ use std::alloc::{AllocError, AllocFailed};
 /// Why a compiled table wasn't made.
 #[derive(Clone, Copy, Debug, PartialEq, Eq)]
 pub(crate) enum Unmade {
-    /// Memory couldn't be allocated.
+    /// Memory couldn't be allocated, there would be too many rule sets (`MOST_BYTES`), or a count
+    /// doesn't fit in 32 bits.
     Memory,
     /// The table would take more bytes than it may.
     Room,
