@@ -21,7 +21,7 @@
    - Memory is read only where it can be: the stack of a thread that has called dwcheck_dl_thread; else the kernel is
      asked about each page, in each walk. So stacks may overflow, and be those of sigaltstack, makecontext or other
      libraries.
-   - A walk takes 1.0 KB of stack where all rows are kept, and 1.2 KB where one is looked up or has an expression, as
+   - A walk takes 1.1 KB of stack where all rows are kept, and 1.2 KB where one is looked up or has an expression, as
      tools/stack_use.py has measured; on aarch64, 1.2 KB and 1.4 KB where one is looked up. A look-up takes 48 KB more, on
      aarch64 54: of the thread's own or an alternate stack, if that is known to have room; else of one of six stacks of
      the library, so an alternate stack of 8 KB suffices, and on aarch64, where the kernel takes more of it, one of 16. If

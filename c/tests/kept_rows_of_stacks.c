@@ -344,20 +344,21 @@ static void stacks_are_those_of_glibc(void) {
     try_stack(shapes, SHAPES, compares_at_a_call);
 }
 
+#ifndef __SANITIZE_ADDRESS__ /* with it, such a function keeps its CFA in places that have no kind */
 static int steps_of(const function *called, int depth) {
     least_steps = 0;
     try_stack(called, depth, compares_here);
     return steps_taken;
 }
 
-/* Under sanitizers, a function keeps such a CFA in places that have no kind. */
 static void realigned_stacks_take_no_step_of_a_cursor(void) {
-#ifndef __SANITIZE_ADDRESS__
     static function const usual[] = {plain, saves, plain, saves_all, plain};
     static function const realigned[] = {realigns, saves, realigns, saves_all, realigns};
     IS(steps_of(realigned, 5), steps_of(usual, 5));
-#endif
 }
+#else
+static void realigned_stacks_take_no_step_of_a_cursor(void) {}
+#endif
 
 static void *runs(void *data) {
     (void)data;
