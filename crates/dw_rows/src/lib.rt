@@ -23,5 +23,4 @@ pub use index::IndexEntry;
 pub use lookup::{lend_row, seek_row};
 pub use program_checks::{check_cie, check_cie_program, check_fde, quick_or_full_check};
 pub use quick_check::quick_row_count;
-pub use row_cursor::{begin_rows, next_range};
 pub use row_iter::Rows;

@@ -11,10 +11,10 @@ use Rattle.dw_rows.proofs.index.index_of.Goals as goal
 pub returns : goal.returns
 returns c =
     let fdes = map fde_of c.args.fdes.now in
-    let entries = c.sort_unstable_by_key.new.self.items in
-    let moved = c.sort_unstable_by_key.ensures.permutation in
+    let entries = c.sort_by_key.new.self.items in
+    let moved = c.in_ok-sort_by_key.ensures.permutation in
     let sorted : IsNonDecreasingBy (λ (e : IndexEntry). e.start) entries =
-    IsNonDecreasingBy-from_sort_by_key (λ (e : IndexEntry). e.start) _ c.sort_unstable_by_key.ensures.sorted
+    IsNonDecreasingBy-from_sort_by_key (λ (e : IndexEntry). e.start) _ c.in_ok-sort_by_key.ensures.sorted
     (λ a r q k. search rules) in
     let each = All-permutation (IsEntry fdes) _ entries moved c.in_ok-index.ensures.entries in
     record {
