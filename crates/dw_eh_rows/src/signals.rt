@@ -2,13 +2,14 @@
 
 ghost use Rattle.std.specs.Prelude.{◌≡◌, ◌<◌, ◌^◌, ◌++◌, ℕ, Bool, List, [], ◌∷◌, IfOk, IfErr, IfSome, OnOk, length};
 ghost use Rattle.dw_bytes.specs.Answers.{Answers, fault_in, memory, values_in};
-ghost use Rattle.dw_eh_frame.specs.Records.{eh_records_of};
+ghost use Rattle.dw_eh_frame.specs.Records.{eh_fde, eh_records_of};
 ghost use Rattle.dw_bytes.specs.declared.target.Target.{Target};
-ghost use Rattle.dw_eh_frame.specs.Views.{HasCieOf, IsCieOf, eh_record_of};
+ghost use Rattle.dw_eh_frame.specs.Views.{HasCieOf, IsCieOf, eh_record_of, fde_with_cie};
 ghost use Rattle.dw_eh_rows.specs.Signals.{is_signal_at, signal_frames as frames_of};
 
 use dw_bytes::{Fault, Target};
-use dw_eh_frame::{Bases, EhCie, EhRecord, eh_record_after};
+use dw_eh_frame::{Bases, EhCie, EhRecord, eh_record_after, usual_fde};
+use dw_frame::FrameDescriptionEntry;
 use std::alloc::Global;
 
 /// `count` addresses, the first of which is `start`.
@@ -16,6 +17,25 @@ use std::alloc::Global;
 pub struct SignalRange {
     pub start: u64,
     pub count: u64,
+}
+
+/// Appends the addresses of an FDE whose CIE is `cie`, if it is a signal frame.
+#[inline(always)]
+fn push_signal_fde(
+    ranges: &mut Vec<SignalRange>,
+    cie: &EhCie<'_>,
+    fde: &FrameDescriptionEntry<'_>,
+) -> Result<(), Fault>
+    ensures pushed { OnOk result (ranges.new.items ≡ ranges.old.items ++ frames_of (eh_fde (fde_with_cie cie.now fde.now) ∷ [])) }
+    ensures lack { IfErr result (λ fault. fault ≡ memory) }
+{
+    if cie.augmentation.is_signal {
+        ranges.push(SignalRange {
+            start: fde.initial_location,
+            count: fde.address_range,
+        })?;
+    }
+    Ok(())
 }
 
 /// Appends the addresses of an FDE that is a signal frame.
@@ -26,19 +46,14 @@ pub(crate) fn push_signal_frame(
     ensures pushed { OnOk result (ranges.new.items ≡ ranges.old.items ++ frames_of (eh_record_of record.now ∷ [])) }
     ensures lack { IfErr result (λ fault. fault ≡ memory) }
 {
-    if let EhRecord::Fde(fde) = record
-        && fde.cie.augmentation.is_signal
-    {
-        ranges.push(SignalRange {
-            start: fde.fde.initial_location,
-            count: fde.fde.address_range,
-        })?;
+    match record {
+        EhRecord::Fde(fde) => push_signal_fde(ranges, &fde.cie, &fde.fde),
+        _ => Ok(()),
     }
-    Ok(())
 }
 
-/// The CIE that was read last, once this record was read. Who goes through the records of a section
-/// passes it to `eh_record_after`.
+/// The CIE that was read or used last, once this record was read. A caller that goes through the records
+/// of a section passes it to `eh_record_after`: most FDEs have the CIE of the FDE before them.
 #[inline(always)]
 pub fn cie_after<'a>(record: &EhRecord<'a>, last: Option<EhCie<'a>>) -> Option<EhCie<'a>>
     ensures { (is_aarch64 : Bool) (target : Target) (section : List ℕ) → HasCieOf is_aarch64 target section record.now
@@ -46,7 +61,8 @@ pub fn cie_after<'a>(record: &EhRecord<'a>, last: Option<EhCie<'a>>) -> Option<E
 {
     match record {
         EhRecord::Cie(cie) => Some(*cie),
-        _ => last,
+        EhRecord::Fde(fde) => Some(fde.cie),
+        EhRecord::Nothing(_) => last,
     }
 }
 
@@ -72,17 +88,25 @@ pub fn signal_frames(
     let mut last = None;
     let mut at = 0u32;
     while (at as usize) < section.len() {
-        let (record, next) = eh_record_after(
-            section,
-            target,
-            bases,
-            is_aarch64,
-            at,
-            last.as_ref(),
-        )?;
-        push_signal_frame(&mut ranges, &record)?;
-        last = cie_after(&record, last);
-        at = next;
+        // Nearly all records are usual FDEs.
+        if let Some(cie) = &last
+            && let Some((fde, next)) = usual_fde(section, target, bases, is_aarch64, at, cie)
+        {
+            push_signal_fde(&mut ranges, cie, &fde)?;
+            at = next;
+        } else {
+            let (record, next) = eh_record_after(
+                section,
+                target,
+                bases,
+                is_aarch64,
+                at,
+                last.as_ref(),
+            )?;
+            push_signal_frame(&mut ranges, &record)?;
+            last = cie_after(&record, last);
+            at = next;
+        }
     }
     Ok(ranges)
 }
