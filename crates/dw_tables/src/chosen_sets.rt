@@ -4,9 +4,9 @@ ghost use Rattle.std.specs.Prelude.{◌≡◌, ◌+◌, ◌<◌, ◌≤◌, All,
 ghost use Rattle.dw_tables.specs.CompiledTable.{IsNumbered, LacksRoom, entry_bytes, set_bytes, set_numbered, sets_bytes};
 ghost use Rattle.dw_tables.specs.NumberedPrograms.{rules_at};
 
-use crate::rule_sets::RuleSets;
+use crate::rule_sets::{RuleSets, bytes_of};
 use crate::table_room::{Unmade, less_room};
-use dw_rules::{RuleEntry, RuleSpan, UnwindState};
+use dw_rules::UnwindState;
 use std::alloc::{AllocError, Global};
 
 /// How many bytes of the room an entry uses up, not counting its rule set. Its start, the number of
@@ -14,12 +14,6 @@ use std::alloc::{AllocError, Global};
 pub const ROW_ROOM: usize = 16;
 
 const _: () = prove!(size_of::<u64>() + size_of::<u32>() + size_of::<u32>() <= ROW_ROOM);
-
-/// How many bytes of the room a new rule set uses up, not counting its register rules. Its span and
-/// its return address register take at most this.
-const SET_ROOM: usize = 64;
-
-const _: () = prove!(size_of::<RuleSpan>() + size_of::<u16>() <= SET_ROOM);
 
 /// The rule sets that a table has. A rule set's index in `numbers` is its number in the table, and the
 /// element is its index in the list of all rule sets.
@@ -61,60 +55,59 @@ impl ChosenSets {
         }
     }
 
-    /// The number that the table has for the rule set at index `state` of `sets`. It gets one if it
+    /// The number that the table has for the rule set at index `index` of `sets`. It gets one if it
     /// has none. The room for an entry with this rule set is taken, and for the rule set if it is
     /// new.
     #[inline(always)]
-    pub fn choose(&mut self, sets: &RuleSets, state: u32) -> Result<u32, Unmade>
-        requires state { state < length sets.now }
+    pub fn choose(&mut self, sets: &RuleSets, index: u32) -> Result<u32, Unmade>
+        requires index { index < length sets.now }
         requires inside { All (λ n. n < length sets.now) self.old.numbers.items }
         ensures inside { All (λ n. n < length sets.now) self.new.numbers.items }
         ensures number { IfOk result (λ number. IsNumbered
-            (map (set_numbered sets.now) self.old.numbers.items) (set_numbered sets.now state) number
+            (map (set_numbered sets.now) self.old.numbers.items) (set_numbered sets.now index) number
             (map (set_numbered sets.now) self.new.numbers.items)) }
         ensures stored { IfOk result (λ _.
             sets_bytes (map (set_numbered sets.now) self.new.numbers.items) + self.new.room + 16
             ≤ sets_bytes (map (set_numbered sets.now) self.old.numbers.items) + self.old.room) }
         ensures spent { IfOk result (λ _.
-            self.old.room ≤ self.new.room + entry_bytes (rules_at sets.now state)) }
+            self.old.room ≤ self.new.room + entry_bytes (rules_at sets.now index)) }
         ensures short { IfErr result
-            (λ why. LacksRoom why self.old.room (entry_bytes (rules_at sets.now state))) }
+            (λ why. LacksRoom why self.old.room (entry_bytes (rules_at sets.now index))) }
     {
         self.room = less_room(self.room, ROW_ROOM)?;
-        if let Some(place) = self.places.get(state as usize) {
+        if let Some(place) = self.places.get(index as usize) {
             let place = *place;
-            if self.numbers.get(place as usize) == Some(&state) {
+            if self.numbers.get(place as usize) == Some(&index) {
                 return Ok(place);
             }
         }
-        self.choose_anew(sets, state)
+        self.choose_anew(sets, index)
     }
 
-    /// Gives the rule set at index `state` of `sets` a new number, and takes the room for it.
+    /// Gives the rule set at index `index` of `sets` a new number, and takes the room for it.
     #[inline(never)]
-    fn choose_anew(&mut self, sets: &RuleSets, state: u32) -> Result<u32, Unmade>
-        requires state { state < length sets.now }
+    fn choose_anew(&mut self, sets: &RuleSets, index: u32) -> Result<u32, Unmade>
+        requires index { index < length sets.now }
         requires inside { All (λ n. n < length sets.now) self.old.numbers.items }
         ensures inside { All (λ n. n < length sets.now) self.new.numbers.items }
         ensures number { IfOk result (λ number. IsNumbered
-            (map (set_numbered sets.now) self.old.numbers.items) (set_numbered sets.now state) number
+            (map (set_numbered sets.now) self.old.numbers.items) (set_numbered sets.now index) number
             (map (set_numbered sets.now) self.new.numbers.items)) }
         ensures stored { IfOk result (λ _.
             sets_bytes (map (set_numbered sets.now) self.new.numbers.items) + self.new.room
             ≤ sets_bytes (map (set_numbered sets.now) self.old.numbers.items) + self.old.room) }
         ensures spent { IfOk result (λ _.
-            self.old.room ≤ self.new.room + set_bytes (rules_at sets.now state)) }
+            self.old.room ≤ self.new.room + set_bytes (rules_at sets.now index)) }
         ensures short { IfErr result
-            (λ why. LacksRoom why self.old.room (set_bytes (rules_at sets.now state))) }
+            (λ why. LacksRoom why self.old.room (set_bytes (rules_at sets.now index))) }
     {
-        let (rules, _) = sets.lend(state as usize);
-        let taken = SET_ROOM + size_of::<RuleEntry>() * rules.entries.len();
-        self.room = less_room(self.room, taken)?;
+        let (rules, _) = sets.lend(index as usize);
+        self.room = less_room(self.room, bytes_of(rules.entries.len()))?;
         let Ok(number) = u32::try_from(self.numbers.len()) else {
             return Err(Unmade::Memory);
         };
-        self.numbers.push(state)?;
-        set_place(&mut self.places, state, number)?;
+        self.numbers.push(index)?;
+        set_place(&mut self.places, index, number)?;
         Ok(number)
     }
 

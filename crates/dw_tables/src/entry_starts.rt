@@ -31,6 +31,7 @@ impl Model for Starts {
 
 /// The distance of `start` from `base`, or `None` if it doesn't fit in four bytes or `may_be_near`
 /// is false.
+#[inline(always)]
 fn near_offset(base: u64, may_be_near: bool, start: u64) -> Option<u32>
     ensures offset { IfSome result (λ offset. base + offset ≡ start) }
     ensures near { IfSome result (λ _. IsTrue may_be_near) }
@@ -56,8 +57,24 @@ impl Starts {
         })
     }
 
-    /// Appends an address. If memory can't be allocated, the list is unchanged.
+    /// Appends an address. If memory can't be allocated, the list is unchanged. A near address for which
+    /// there is capacity is appended inline here, any other in `push_any`.
+    #[inline(always)]
     pub fn push(&mut self, start: u64) -> Result<(), AllocError>
+        ensures { MatchResult result (λ _. self.new ≡ self.old ++ start ∷ []) (λ _. self.new ≡ self.old) }
+    {
+        if self.near.len() < self.near.capacity()
+            && let Some(offset) = near_offset(self.base, self.far.is_empty(), start)
+        {
+            self.near.push_reserved(offset);
+            return Ok(());
+        }
+        self.push_any(start)
+    }
+
+    /// What `push` does, for any address.
+    #[inline(never)]
+    fn push_any(&mut self, start: u64) -> Result<(), AllocError>
         ensures { MatchResult result (λ _. self.new ≡ self.old ++ start ∷ []) (λ _. self.new ≡ self.old) }
     {
         match near_offset(self.base, self.far.is_empty(), start) {

@@ -23,6 +23,7 @@ impl Model for SetNumbers {
 }
 
 /// The number in two bytes, or `None` if it doesn't fit or `may_be_narrow` is false.
+#[inline(always)]
 fn narrow_number(may_be_narrow: bool, number: u32) -> Option<u16>
     ensures number { IfSome result (λ narrow. narrow ≡ number) }
     ensures narrow { IfSome result (λ _. IsTrue may_be_narrow) }
@@ -44,8 +45,24 @@ impl SetNumbers {
         })
     }
 
-    /// Appends a number. If memory can't be allocated, the list is unchanged.
+    /// Appends a number. If memory can't be allocated, the list is unchanged. A number of two bytes for
+    /// which there is capacity is appended inline here, any other in `push_any`.
+    #[inline(always)]
     pub fn push(&mut self, number: u32) -> Result<(), AllocError>
+        ensures { MatchResult result (λ _. self.new ≡ self.old ++ number ∷ []) (λ _. self.new ≡ self.old) }
+    {
+        if self.narrow.len() < self.narrow.capacity()
+            && let Some(narrow) = narrow_number(self.wide.is_empty(), number)
+        {
+            self.narrow.push_reserved(narrow);
+            return Ok(());
+        }
+        self.push_any(number)
+    }
+
+    /// What `push` does, for any number.
+    #[inline(never)]
+    fn push_any(&mut self, number: u32) -> Result<(), AllocError>
         ensures { MatchResult result (λ _. self.new ≡ self.old ++ number ∷ []) (λ _. self.new ≡ self.old) }
     {
         match narrow_number(self.wide.is_empty(), number) {

@@ -1,17 +1,33 @@
 //! A list of rule sets, each with its return address register.
 
-ghost use Rattle.std.specs.Prelude.{◌≡◌, ◌<◌, ◌≤◌, [], ◌∷◌, ◌++◌, MatchResult, length, Some, slice_get};
+ghost use Rattle.std.specs.Prelude.{◌≡◌, ◌+◌, ◌*◌, ◌<◌, ◌≤◌, [], ◌∷◌, ◌++◌, MatchResult, length, Some, slice_get};
 ghost use Rattle.std.specs.Bool.{OnTrue};
 ghost use Rattle.std.specs.Option.{option_map};
 ghost use Rattle.dw_rules.specs.Rules.{IsTable};
 ghost use Rattle.dw_rules.specs.SavedRules.{ArePlain};
 ghost use Rattle.dw_rules.specs.Views.{stored_cfa_of, entries_of};
 ghost use Rattle.dw_tables.specs.CompiledTable.{set_numbered};
-ghost use Rattle.dw_tables.specs.NumberedPrograms.{rules_at, with_rules};
+ghost use Rattle.dw_tables.specs.NumberedPrograms.{rules_at, state_with_rules};
 
-use dw_rules::{InitialRules, LentRules, MAX_RULES, RuleSet, StoredCfa, UnwindState};
+use dw_rules::{
+    InitialRules, LentRules, MAX_RULES, RuleEntry, RuleSet, RuleSpan, StoredCfa, UnwindState,
+};
 use std::alloc::{AllocError, Global};
 use std::marker::Model;
+
+/// How many bytes a rule set takes, not counting its register rules. Its span and its return address
+/// register take at most this, with its elements of `RuleNumbers::links` and `ChosenSets::places`.
+const SET_ROOM: usize = 64;
+
+const _: () = prove!(size_of::<RuleSpan>() + size_of::<u16>() + 2 * size_of::<u32>() <= SET_ROOM);
+
+/// How many bytes a rule set with `rules` register rules takes.
+pub fn bytes_of(rules: usize) -> usize
+    requires { rules ≤ MAX_RULES }
+    ensures { result ≡ 64 + 16 * rules }
+{
+    SET_ROOM + size_of::<RuleEntry>() * rules
+}
 
 /// A list of rule sets, each with the return address register of the CIE that its rows belong to.
 /// Rows of a table refer to a rule set by its index.
@@ -66,7 +82,7 @@ impl RuleSets {
     pub fn load(&self, first: usize, from: usize, state: &mut UnwindState)
         requires first { first < length self.now }
         requires from { from < length self.now }
-        ensures { state.new ≡ with_rules (rules_at self.now first) (rules_at self.now from) }
+        ensures { state.new ≡ state_with_rules (rules_at self.now first) (rules_at self.now from) }
     {
         state.set_initial_rules(&self.rules, from);
         state.begin(0);

@@ -3,8 +3,10 @@
 
 ghost use Rattle.std.specs.Prelude.{◌≡◌, ◌+◌, ◌*◌, ◌≤◌, Contains, IfOk, IfErr, IfSome, Some, All, find, length};
 ghost use Rattle.std.specs.Option.{option_map};
-ghost use Rattle.dw_frame.specs.Views.{fde_of};
+ghost use Rattle.dw_frame.specs.Views.{cie_of, fde_of};
 ghost use Rattle.dw_rules.specs.RowExpressions.{row_expressions};
+ghost use Rattle.dw_rows.specs.Section.{IsChecked};
+ghost use Rattle.dw_tables.specs.NumberedPrograms.{BeganWith};
 ghost use Rattle.dw_tables.specs.UnwindTables.{has, fde_bytes, all_rows_bytes};
 ghost use Rattle.dw_tables.specs.CompiledTable.{IsPushed, IsTableUpTo, IsClosedAt, IsBegunAt, IsFilled, ArePlacedRows, AreEntries, rows_to};
 ghost use Rattle.dw_tables.specs.CompiledTable.{IsSpanOf, LendsFound, found_with_expressions, LacksRoom, entry_bytes, stored_bytes};
@@ -13,8 +15,8 @@ use crate::chosen_sets::ROW_ROOM;
 use crate::numbered_program::NumberedProgram;
 use crate::rule_sets::RuleSets;
 use crate::table_entries::{EntrySpan, TableEntries, TableEntry};
-use crate::table_room::{Unmade, less_room};
-use dw_frame::FrameDescriptionEntry;
+use crate::table_room::Unmade;
+use dw_frame::{CommonInformationEntry, FrameDescriptionEntry};
 use dw_rows::CheckedFrame;
 use dw_rules::{RowExpressions, UnwindRow, UnwindState};
 use std::alloc::Global;
@@ -32,6 +34,7 @@ pub struct GrowingTable {
 impl GrowingTable {
     /// Appends an entry: from the address `start` on, the rules that are in force in the program
     /// hold, and the return address register is the program's.
+    #[inline(always)]
     fn push_row(&mut self, start: u64) -> Result<(), Unmade>
         ensures pushed { IfOk result (λ _. IsPushed self.old.entries self.old.numbers.sets start
             (record { rules = self.old.numbers.state.current; register = self.old.numbers.register })
@@ -61,11 +64,13 @@ impl GrowingTable {
             ≤ stored_bytes self.old.entries self.old.numbers.sets + self.old.numbers.room) }
         ensures spent { IfOk result (λ _. self.old.numbers.room ≤ self.new.numbers.room + 80) }
         ensures short { IfErr result (λ why. LacksRoom why self.old.numbers.room 80) }
+        ensures state { self.new.numbers.state ≡ self.old.numbers.state }
+        ensures register { self.new.numbers.register ≡ self.old.numbers.register }
     {
         if self.entries.count() == 0 {
             return Ok(());
         }
-        let set = self.numbers.choose_nothing()?;
+        let set = self.numbers.choose_empty()?;
         self.entries.push(TableEntry {
             start: self.end,
             set,
@@ -83,6 +88,8 @@ impl GrowingTable {
             ≤ stored_bytes self.old.entries self.old.numbers.sets + self.old.numbers.room) }
         ensures spent { IfOk result (λ _. self.old.numbers.room ≤ self.new.numbers.room + 80) }
         ensures short { IfErr result (λ why. LacksRoom why self.old.numbers.room 80) }
+        ensures state { self.new.numbers.state ≡ self.old.numbers.state }
+        ensures register { self.new.numbers.register ≡ self.old.numbers.register }
     {
         if self.end == start {
             return Ok(());
@@ -93,15 +100,18 @@ impl GrowingTable {
 }
 
 /// Appends the rows of one more FDE. The FDE must not begin below `table.end`, where the rows so
-/// far end. `spare` may be any state, and `near` is that of `begin_with_cie`.
-fn fill(
-    frame: &CheckedFrame<'_>,
-    fde: &FrameDescriptionEntry<'_>,
-    spare: &mut UnwindState,
+/// far end. `last`, `near` and `spare` are those of `NumberedProgram::begin_fde`.
+fn fill<'a>(
+    frame: &CheckedFrame<'a>,
+    fde: &FrameDescriptionEntry<'a>,
     table: &mut GrowingTable,
+    last: &mut Option<CommonInformationEntry<'a>>,
     near: &mut usize,
+    spare: &mut UnwindState,
 ) -> Result<(), Unmade>
+    requires checked { IsChecked frame.now }
     requires among { Contains frame.now.fdes (fde_of fde.now) }
+    requires last { IfSome last.old (λ cie. BeganWith frame.now table.old.numbers (cie_of cie)) }
     requires table { IsTableUpTo frame.now.expressions table.old.end
         table.old.entries table.old.numbers.sets }
     requires order { table.old.end ≤ fde.now.initial_location }
@@ -109,6 +119,8 @@ fn fill(
         table.old.entries table.old.numbers.sets table.new.entries table.new.numbers.sets) }
     ensures end { IfOk result (λ _. table.new.end
         ≡ fde.now.initial_location + fde.now.address_range) }
+    ensures last { IfOk result (λ _. IfSome last.new
+        (λ cie. BeganWith frame.now table.new.numbers (cie_of cie))) }
     ensures stored { IfOk result (λ _.
         stored_bytes table.new.entries table.new.numbers.sets + table.new.numbers.room
         ≤ stored_bytes table.old.entries table.old.numbers.sets + table.old.numbers.room) }
@@ -118,12 +130,7 @@ fn fill(
         (fde_bytes frame.now (fde_of fde.now))) }
 {
     table.begin_at(fde.initial_location)?;
-    let cie = frame.begin_with_cie(spare, near, fde);
-    table.numbers.begin(
-        spare.initial_rules(),
-        fde.initial_location,
-        cie.return_address_register,
-    )?;
+    let cie = table.numbers.begin_fde(frame, fde, last, near, spare)?;
     let mut instructions = fde.program.instructions();
     let limit = fde.initial_location + fde.address_range;
     while let Some((start, _)) = table
@@ -169,12 +176,13 @@ fn fill_all(alloc: Global, frame: &CheckedFrame<'_>, room: usize) -> Result<Grow
         end: 0,
     };
     let mut spare = UnwindState::new();
+    let mut last = None;
     let mut near = 0;
     let fdes = frame.fdes();
     let index = frame.index();
     for entry in index {
         let fde = fdes[entry.place];
-        fill(frame, &fde, &mut spare, &mut table, &mut near)?;
+        fill(frame, &fde, &mut table, &mut last, &mut near, &mut spare)?;
     }
     table.close()?;
     table.entries.finish(alloc)?;

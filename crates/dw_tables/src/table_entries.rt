@@ -82,7 +82,7 @@ fn blocks_of(alloc: Global, offsets: &[u32]) -> Result<Blocks, AllocError>
     let mut counts = Vec::with_capacity(alloc, limit + 2)?;
     for (place, offset) in offsets.iter().enumerate() {
         let block = block_of(shift, *offset);
-        if block <= limit {
+        if counts.len() <= block && block <= limit {
             let Ok(count) = u32::try_from(place) else {
                 return Err(AllocError);
             };
@@ -295,6 +295,7 @@ impl TableEntries {
     }
 
     /// Appends an entry. If memory can't be allocated, all entries may be lost.
+    #[inline(always)]
     pub fn push(&mut self, entry: TableEntry) -> Result<(), AllocError>
         ensures { IfOk result (λ _. self.new ≡ self.old ++ entry ∷ []) }
     {

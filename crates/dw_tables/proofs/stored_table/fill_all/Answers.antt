@@ -42,6 +42,9 @@ fill-requires-clause-order c =
 pub fill-requires-clause-table : goal.fill-requires-clause-table
 fill-requires-clause-table c = c.loop-entry.invariant.filling.table
 
+pub fill-requires-clause-last : goal.fill-requires-clause-last
+fill-requires-clause-last c = c.loop-entry.invariant.last
+
 pub loop-entry-preserved : goal.loop-entry-preserved
 loop-entry-preserved c =
     let fdes = c.fdes-fdes.result.now in
@@ -67,6 +70,7 @@ loop-entry-preserved c =
         c.in_ok-fill.ensures.spent,
         sum-further (fde_bytes c.args.frame.now) (map view index) k (fde_of x) (omega arith) placed,
       );
+      last = c.in_ok-fill.ensures.last;
       stored = omega (arith, c.loop-entry.invariant.stored, c.in_ok-fill.ensures.stored);
     }
 
@@ -99,6 +103,7 @@ pub loop-entry-init : goal.loop-entry-init
 loop-entry-init c = record {
   filling = all-begin c.args.frame.now _ _ _ c.in_ok-with_capacity.ensures c.in_ok-new.ensures.sets;
   spent = omega (arith, c.in_ok-new.ensures.room);
+  last = tt;
   stored = omega (
     arith,
     ap (λ (l : List TableEntry). length l) c.in_ok-with_capacity.ensures,

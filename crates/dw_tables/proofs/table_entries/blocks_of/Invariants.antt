@@ -4,8 +4,8 @@ use Rattle.dw_tables.proofs.table_entries.blocks_of.Given as goal
 abbrev pub invariant-loop-place : goal.invariant-loop-place
 invariant-loop-place l = length l.counts.items ≤ l.limit + 1
 
-abbrev pub invariant-loop-block : goal.invariant-loop-block
-invariant-loop-block l = length l.counts.items ≤ l.limit + 1
+abbrev pub invariant-loop-count : goal.invariant-loop-count
+invariant-loop-count l = length l.counts.items ≤ l.limit + 1
 
-abbrev pub decreases-loop-block : goal.decreases-loop-block
-decreases-loop-block l = l.block + 1 - length l.counts.items
+abbrev pub decreases-loop-count : goal.decreases-loop-count
+decreases-loop-count l = l.block + 1 - length l.counts.items
