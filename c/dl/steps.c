@@ -95,7 +95,7 @@ static uint64_t next_end(const dwcheck_block *stack, uint64_t cfa) {
 static uint32_t step_cursor(struct dwcheck_dl_walk *walk, const struct dwcheck_dl_module *module, dwcheck_cursor *cursor,
                             dwcheck_frame *frame) {
     struct step call = {module, cursor, &walk->stack, frame, DWCHECK_NO_MEMORY};
-    for (;;) {
+    for (;; call.status = DWCHECK_NO_MEMORY) {
         const uint32_t status = place_cursor(walk, cursor);
         if (status != DWCHECK_DONE) return status;
         if (!dwcheck_dl_call(dwcheck_dl_room_of(walk), step, &call) || call.status != DWCHECK_DONE) return call.status;
