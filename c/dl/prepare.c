@@ -166,8 +166,8 @@ static int look(struct dl_phdr_info *info, size_t size, void *data) {
     return 0;
 }
 
-/* Takes those away whose modules are gone. */
-static void remove_gone(struct preparation *preparation) {
+/* Takes those away whose modules are gone. A walk that begins after the number has changed doesn't use them. */
+static void remove_gone(void) {
     for (struct made *_Atomic *at = &all; atomic_load(at) != NULL;) {
         struct made *made = atomic_load(at);
         if (made->is_there) {
@@ -175,8 +175,8 @@ static void remove_gone(struct preparation *preparation) {
             continue;
         }
         atomic_store(at, atomic_load(&made->next));
+        atomic_fetch_add(&preparations, 1);
         dwcheck_dl_retire(&retired, &made->retired);
-        preparation->is_changed = true;
     }
 }
 
@@ -188,7 +188,7 @@ uint32_t dwcheck_dl_prepare(void) {
     pthread_mutex_lock(&lock);
     for (struct made *made = atomic_load(&all); made != NULL; made = atomic_load(&made->next)) made->is_there = false;
     dl_iterate_phdr(look, &preparation);
-    remove_gone(&preparation);
+    remove_gone();
     if (preparation.is_changed) atomic_fetch_add(&preparations, 1);
     dwcheck_dl_retire(&retired, NULL);
     pthread_mutex_unlock(&lock);
