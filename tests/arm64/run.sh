@@ -14,6 +14,7 @@ trap 'rm -rf "$out"' EXIT
 version=$(sed -n 's/^version := //p' "$top/Makefile")
 libraries=usr/lib/aarch64-linux-gnu
 strict="-Wall -Wextra -pedantic -Werror -I$top/c/include"
+without_rows="-fno-asynchronous-unwind-tables -fno-unwind-tables -g" # but in .debug_frame
 # Signatures of return addresses are computed as qemu likes, and not as the architecture does, which is slow.
 emulator="qemu-aarch64 -cpu max,pauth-impdef=on -L"
 
@@ -234,8 +235,8 @@ test_beside "arm64: walks from contexts of any registers end" c_test dl_contexts
 test_beside "arm64: stacks are glibc's, while libraries come and go" modules
 test_beside "arm64: stacks while libraries come and go, with signed return addresses" modules -mbranch-protection=standard
 test_beside "arm64: a stack of a static program" linked -static
-test_beside "arm64: a stack whose rows are in .debug_frame" linked -fno-asynchronous-unwind-tables -g
-test_beside "arm64: a stack whose rows are in .debug_frame, with signed return addresses" linked -fno-asynchronous-unwind-tables -g -mbranch-protection=standard
+test_beside "arm64: a stack whose rows are in .debug_frame" linked $without_rows
+test_beside "arm64: a stack whose rows are in .debug_frame, with signed return addresses" linked $without_rows -mbranch-protection=standard
 test_beside "arm64: a stack over the shared libraries" shared
 test_beside "arm64: the header says how much stack walks take" "$top/tools/stack_use.py" --aarch64
 test_beside "arm64: types of libunwind have the same layout" unwind_layouts
