@@ -132,17 +132,25 @@ struct fill {
     uint32_t status;
 };
 
+static uint32_t fill_by(const struct fill *fill, const struct dwcheck_dl_section *section) {
+    dwcheck_fault fault;
+    const dwcheck_module module = dwcheck_dl_as_module(section);
+    const dwcheck_header header = dwcheck_dl_as_header(section);
+    return dwcheck_dl_rows_fill(&fill->cache->rows, (uint32_t)fill->slot, &module, &header, fill->address, &fault);
+}
+
 static void fill(void *data) {
     struct fill *fill = data;
-    dwcheck_fault fault;
-    const dwcheck_module module = dwcheck_dl_section_of(&fill->cache->modules[fill->slot]);
-    const dwcheck_header header = dwcheck_dl_header_of(&fill->cache->modules[fill->slot]);
-    fill->status = dwcheck_dl_rows_fill(&fill->cache->rows, (uint32_t)fill->slot, &module, &header, fill->address, &fault);
+    const struct dwcheck_dl_module *module = &fill->cache->modules[fill->slot];
+    const struct dwcheck_dl_section *section = dwcheck_dl_first_section(module);
+    fill->status = DWCHECK_NONE;
+    for (; section != NULL && fill->status == DWCHECK_NONE; section = dwcheck_dl_next_section(module, section))
+        fill->status = fill_by(fill, section);
 }
 
 uint32_t dwcheck_dl_fill(struct dwcheck_dl_cache *cache, int slot, uint64_t address, struct dwcheck_dl_room room) {
     struct fill call = {cache, address, slot, DWCHECK_NO_MEMORY};
-    if (cache->modules[slot].frame_length == 0) return DWCHECK_NONE;
+    if (dwcheck_dl_first_section(&cache->modules[slot]) == NULL) return DWCHECK_NONE;
     dwcheck_dl_call(room, fill, &call);
     return call.status == DWCHECK_NO_PLACE ? DWCHECK_DONE : call.status;
 }

@@ -38,7 +38,8 @@ static void set_identity(struct dwcheck_dl_module *module, const struct dl_phdr_
     struct dwcheck_dl_bytes id = dwcheck_dl_build_id(&module->object, info);
     if (id.length == 0) {
         module->layout = layout_of(info) | 1;
-        id = (struct dwcheck_dl_bytes){module->frame, module->frame_length < MOST ? module->frame_length : MOST};
+        const struct dwcheck_dl_section *section = &module->eh_frame;
+        id = (struct dwcheck_dl_bytes){section->frame, section->frame_length < MOST ? section->frame_length : MOST};
     }
     module->id = id.first, module->id_length = id.length;
     module->identity = dwcheck_dl_sum(0, id.first, id.length);
@@ -53,8 +54,9 @@ static void set_tables(struct dwcheck_dl_module *module, const struct dl_phdr_in
     } else if (module->object.map->l_prev == NULL) { /* the program: gcc -static writes no header */
         frame = dwcheck_dl_frame_of_program(info);
     }
-    module->frame = frame.first, module->frame_length = frame.length, module->frame_address = (uintptr_t)frame.first;
-    module->table = table.first, module->table_length = table.length, module->table_address = (uintptr_t)table.first;
+    module->eh_frame = (struct dwcheck_dl_section){
+        .frame = frame.first, .frame_length = frame.length, .frame_address = (uintptr_t)frame.first,
+        .table = table.first, .table_length = table.length, .table_address = (uintptr_t)table.first};
 }
 
 void dwcheck_dl_describe(const struct dwcheck_dl_object *object, struct dwcheck_dl_module *module) {

@@ -89,9 +89,9 @@ static struct dwcheck_dl_bytes rest_of_segment(const struct dl_phdr_info *info, 
     return (struct dwcheck_dl_bytes){(const void *)(uintptr_t)first, end == 0 ? 0 : end - first};
 }
 
-/* Where no record of length 0 ends the section, as in some programs without the usual start files, it ends with the
-   number of FDEs that the header gives. */
-struct dwcheck_dl_bytes dwcheck_dl_records_of(const struct dl_phdr_info *info, const uint8_t *header) {
+/* The section, exactly as long as its records are. Where no record of length 0 ends it, as in some programs without the
+   usual start files, it ends with the number of FDEs that the header gives. */
+static struct dwcheck_dl_bytes records_of(const struct dl_phdr_info *info, const uint8_t *header) {
     struct dwcheck_dl_bytes section = rest_of_segment(info, header);
     const uint64_t first = (uintptr_t)section.first, end = first + section.length;
     bool is_found = true;
@@ -105,7 +105,7 @@ struct dwcheck_dl_bytes dwcheck_dl_records_of(const struct dl_phdr_info *info, c
    through. */
 struct dwcheck_dl_bytes dwcheck_dl_eh_frame_of(const struct dl_phdr_info *info, const uint8_t *header) {
     if (dwcheck_dl_table_of(info, header).length != 0) return rest_of_segment(info, header);
-    return dwcheck_dl_records_of(info, header);
+    return records_of(info, header);
 }
 
 /* The build id among the notes of a segment, which lie from `at` up to `end`. */

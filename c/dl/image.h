@@ -20,9 +20,6 @@ DWCHECK_DL_HIDDEN uint64_t dwcheck_dl_end_of_segment(const struct dl_phdr_info *
 /* The .eh_frame section to which the header at an address leads; of length 0 if the header isn't as linkers write it. */
 DWCHECK_DL_HIDDEN struct dwcheck_dl_bytes dwcheck_dl_eh_frame_of(const struct dl_phdr_info *info, const uint8_t *header);
 
-/* The same, exactly as long as its records are. */
-DWCHECK_DL_HIDDEN struct dwcheck_dl_bytes dwcheck_dl_records_of(const struct dl_phdr_info *info, const uint8_t *header);
-
 /* The header at an address, if it has a search table of the usual form; else of length 0. */
 DWCHECK_DL_HIDDEN struct dwcheck_dl_bytes dwcheck_dl_table_of(const struct dl_phdr_info *info, const uint8_t *header);
 

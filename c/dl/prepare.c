@@ -1,6 +1,6 @@
 /* Reads .debug_frame of modules, for walks that come later. */
 #define _GNU_SOURCE
-#include "both.h"
+#include "debug_frame.h"
 #include "dwcheck-dl.h"
 #include "files.h"
 #include "list.h"
@@ -13,14 +13,13 @@
 #include <string.h>
 #include <sys/mman.h>
 
-/* A section that was made for a module, after its search table, in one piece of memory. */
+/* A section that was made for a module, which lies after its search table in the same piece of memory. */
 struct made {
     struct dwcheck_dl_retired retired;
     struct made *_Atomic next;
     struct dwcheck_dl_object object;
     uint64_t identity, layout;
-    uint64_t load_address, frame_address; /* the latter is as linked */
-    size_t table_length, frame_length;
+    struct dwcheck_dl_section section;
     bool is_there;
     uint8_t bytes[];
 };
@@ -49,11 +48,7 @@ static struct made *find(const struct dwcheck_dl_module *module) {
 void dwcheck_dl_use_prepared(struct dwcheck_dl_module *module) {
     module->prepared = dwcheck_dl_preparations();
     const struct made *made = find(module);
-    if (made == NULL) return;
-    module->frame = made->bytes + made->table_length, module->frame_length = made->frame_length;
-    module->table = made->bytes, module->table_length = made->table_length;
-    module->frame_address = module->table_address = made->frame_address;
-    module->load_address = made->load_address;
+    if (made != NULL) module->debug_frame = &made->section;
 }
 
 /* ---- making a section */
@@ -80,43 +75,43 @@ struct pieces {
     size_t frame_length, table_length;
 };
 
-/* Makes them of what .eh_frame, at this address as linked, and .debug_frame say. */
-static uint32_t make_pieces(struct pieces *pieces, const struct code *code, uint64_t address, struct dwcheck_dl_bytes frame,
-                            struct dwcheck_dl_bytes debug_frame) {
-    dwcheck_module module = {.frame = frame.first, .frame_length = frame.length, .section_address = address,
-                             .order = DWCHECK_LITTLE, .address_size = sizeof(void *), .kind = DWCHECK_DL_KIND};
-    dwcheck_module other = module;
-    other.kind = DWCHECK_DEBUG_FRAME;
-    other.frame = debug_frame.first, other.frame_length = debug_frame.length;
-    uint32_t status = dwcheck_dl_both(&module, &other, code->first, code->last, &pieces->frame, &pieces->frame_length);
+/* Makes them of .debug_frame, if that has no fault: as in dwcheck_process_add_both, one costs all its rows. */
+static uint32_t make_pieces(struct pieces *pieces, const struct code *code, struct dwcheck_dl_bytes debug_frame) {
+    dwcheck_module module = {.frame = debug_frame.first, .frame_length = debug_frame.length, .section_address = code->first,
+                             .order = DWCHECK_LITTLE, .address_size = sizeof(void *), .kind = DWCHECK_DEBUG_FRAME};
+    dwcheck_counts counts;
+    dwcheck_fault fault;
+    uint32_t status = dwcheck_dl_as_eh_frame(&module, code->first, code->last, &pieces->frame, &pieces->frame_length);
     if (status != DWCHECK_DONE) return status;
-    module.frame = pieces->frame, module.frame_length = pieces->frame_length;
-    return dwcheck_dl_table(&module, &pieces->table, &pieces->table_length);
+    module.kind = DWCHECK_DL_KIND, module.frame = pieces->frame, module.frame_length = pieces->frame_length;
+    status = dwcheck_module_check(&module, &counts, &fault);
+    return status != DWCHECK_DONE ? status : dwcheck_dl_table(&module, &pieces->table, &pieces->table_length);
 }
 
 /* Joins them. Returns NULL if there isn't enough memory. */
 static struct made *joined(const struct pieces *pieces) {
     struct made *made = malloc(sizeof *made + pieces->table_length + pieces->frame_length);
     if (made == NULL) return NULL;
-    *made = (struct made){.table_length = pieces->table_length, .frame_length = pieces->frame_length};
+    *made = (struct made){.section = {.table = made->bytes, .table_length = pieces->table_length,
+                                      .frame = made->bytes + pieces->table_length, .frame_length = pieces->frame_length}};
     if (pieces->table_length != 0) memcpy(made->bytes, pieces->table, pieces->table_length);
     memcpy(made->bytes + pieces->table_length, pieces->frame, pieces->frame_length);
     return made;
 }
 
-/* Makes the section of a module. Returns DWCHECK_NONE if its .debug_frame says nothing that .eh_frame doesn't. */
-static uint32_t make(struct made **made, const struct dl_phdr_info *info, struct dwcheck_dl_bytes frame,
-                     struct dwcheck_dl_bytes debug_frame) {
+/* Makes the section of a module. Returns DWCHECK_DONE; or another status if nothing of .debug_frame can be used. */
+static uint32_t make(struct made **made, const struct dl_phdr_info *info, struct dwcheck_dl_bytes debug_frame) {
     struct pieces pieces = {NULL, NULL, 0, 0};
     struct code code;
     if (debug_frame.length == 0 || !find_code(info, &code)) return DWCHECK_NONE;
-    const uint64_t address = frame.length ? (uintptr_t)frame.first - info->dlpi_addr : code.first;
-    uint32_t status = make_pieces(&pieces, &code, address, frame, debug_frame);
+    uint32_t status = make_pieces(&pieces, &code, debug_frame);
     if (status == DWCHECK_DONE && (*made = joined(&pieces)) == NULL) status = DWCHECK_NO_MEMORY;
     free(pieces.frame);
     free(pieces.table);
-    if (status == DWCHECK_DONE) (*made)->load_address = info->dlpi_addr, (*made)->frame_address = address;
-    return status;
+    if (status != DWCHECK_DONE) return status;
+    (*made)->section.load_address = info->dlpi_addr;
+    (*made)->section.frame_address = (*made)->section.table_address = code.first;
+    return DWCHECK_DONE;
 }
 
 /* ---- all modules */
@@ -135,16 +130,10 @@ static bool describe(const struct dl_phdr_info *info, struct dwcheck_dl_module *
     return true;
 }
 
-/* The module's own .eh_frame, exactly as long as it is. */
-static struct dwcheck_dl_bytes frame_of(const struct dwcheck_dl_module *module, const struct dl_phdr_info *info) {
-    if (module->object.header != NULL) return dwcheck_dl_records_of(info, module->object.header);
-    return (struct dwcheck_dl_bytes){module->frame, module->frame_length};
-}
-
-static uint32_t make_for(const struct dwcheck_dl_module *module, const struct dl_phdr_info *info, struct made **made) {
+static uint32_t make_for(const struct dl_phdr_info *info, struct made **made) {
     const struct dwcheck_dl_bytes file = dwcheck_dl_map_file(info);
     if (file.length == 0) return DWCHECK_NONE;
-    const uint32_t status = make(made, info, frame_of(module, info), dwcheck_dl_debug_frame_of(file, info));
+    const uint32_t status = make(made, info, dwcheck_dl_debug_frame_of(file, info));
     munmap((void *)file.first, file.length);
     return status;
 }
@@ -156,7 +145,7 @@ static int look(struct dl_phdr_info *info, size_t size, void *data) {
     (void)size;
     if (!describe(info, &module)) return 0;
     if ((made = find(&module)) != NULL) return made->is_there = true, 0;
-    const uint32_t status = make_for(&module, info, &made);
+    const uint32_t status = make_for(info, &made);
     if (status == DWCHECK_NO_MEMORY) preparation->status = status;
     if (status != DWCHECK_DONE) return 0;
     made->object = module.object, made->identity = module.identity, made->layout = module.layout, made->is_there = true;

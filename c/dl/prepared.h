@@ -4,7 +4,7 @@
 
 #include "image.h"
 
-/* Makes a module's section the one that dwcheck_dl_prepare has made for it, if it has made one. */
+/* Gives a module the section that dwcheck_dl_prepare has made of its .debug_frame, if it has made one. */
 DWCHECK_DL_HIDDEN void dwcheck_dl_use_prepared(struct dwcheck_dl_module *module);
 
 /* A number that changes with each dwcheck_dl_prepare that has changed something. */

@@ -56,7 +56,8 @@ bool dwcheck_dl_find_registered(uint64_t address, struct dwcheck_dl_object *obje
 void dwcheck_dl_describe_registered(const struct dwcheck_dl_object *object, struct dwcheck_dl_module *module) {
     const struct code *code = code_at(object->first);
     if (code == NULL || code->number != object->number) return;
-    module->frame = code->frame, module->frame_length = code->length, module->frame_address = (uintptr_t)code->frame;
+    module->eh_frame = (struct dwcheck_dl_section){
+        .frame = code->frame, .frame_length = code->length, .frame_address = (uintptr_t)code->frame};
 }
 
 /* Publishes a version in the place of the newest one. */

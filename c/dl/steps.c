@@ -41,7 +41,7 @@ static bool leave_signal(struct dwcheck_dl_walk *walk, dwcheck_dl_frame *frame) 
 
 /* ---- rows with expressions */
 
-/* A call of dwcheck_step_in. */
+/* Calls of dwcheck_step_in. The status is NONE if no row covers the frame. */
 struct step {
     const struct dwcheck_dl_module *module;
     dwcheck_cursor *cursor;
@@ -50,13 +50,25 @@ struct step {
     uint32_t status;
 };
 
+/* If the section doesn't cover the frame, the cursor is where it was. */
+static uint32_t step_by(const struct step *step, const struct dwcheck_dl_section *section) {
+    dwcheck_fault fault;
+    const dwcheck_module module = dwcheck_dl_as_module(section);
+    const dwcheck_header header = dwcheck_dl_as_header(section);
+    const dwcheck_state state = dwcheck_dl_state_of(step->stack);
+    const uint32_t stage = step->cursor->stage;
+    const uint32_t status = dwcheck_step_in(&module, &header, step->cursor, &state, step->frame, &fault);
+    if (status != DWCHECK_DONE || step->cursor->stage != DWCHECK_STOP_NOT_COVERED + 1) return status;
+    step->cursor->stage = stage;
+    return DWCHECK_NONE;
+}
+
 static void step(void *data) {
     struct step *step = data;
-    dwcheck_fault fault;
-    const dwcheck_module section = dwcheck_dl_section_of(step->module);
-    const dwcheck_header header = dwcheck_dl_header_of(step->module);
-    const dwcheck_state state = dwcheck_dl_state_of(step->stack);
-    step->status = dwcheck_step_in(&section, &header, step->cursor, &state, step->frame, &fault);
+    const struct dwcheck_dl_section *section = dwcheck_dl_first_section(step->module);
+    step->status = DWCHECK_NONE;
+    for (; section != NULL && step->status == DWCHECK_NONE; section = dwcheck_dl_next_section(step->module, section))
+        step->status = step_by(step, section);
     /* Also where a row doesn't say that the return address is signed, as in walks by kept rows. */
     if (step->status == DWCHECK_DONE) step->cursor->address = dwcheck_dl_unsigned(step->cursor->address);
 }
@@ -121,9 +133,9 @@ static void step_by_row(struct dwcheck_dl_walk *walk, dwcheck_dl_frame *frame) {
     const struct dwcheck_dl_module *module = NULL;
     uint32_t status = DWCHECK_NONE;
     if (walk->place.key != 0) module = dwcheck_dl_module_of(walk->cache, &walk->confirmed, walk->place.key - 1, &room);
-    if (module != NULL && module->frame_length != 0) status = step_cursor(walk, module, &cursor, &at);
-    if (status != DWCHECK_DONE || cursor.stage == DWCHECK_STOP_NOT_COVERED + 1) {
-        dwcheck_dl_step_without_row(walk, frame, status == DWCHECK_DONE ? DWCHECK_NONE : status);
+    if (module != NULL && dwcheck_dl_first_section(module) != NULL) status = step_cursor(walk, module, &cursor, &at);
+    if (status != DWCHECK_DONE) {
+        dwcheck_dl_step_without_row(walk, frame, status);
         return;
     }
     if (at.cfa.kind == DWCHECK_ANSWER_VALUE) frame->cfa = at.cfa.value;

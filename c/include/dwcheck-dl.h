@@ -115,11 +115,14 @@ dwcheck_block dwcheck_dl_stack(uint64_t address);
 uint32_t dwcheck_dl_thread(void);
 
 /* Reads .debug_frame of the modules that are loaded, from their files: for code without rows in .eh_frame, such as C
-   code compiled with -fno-asynchronous-unwind-tables -g. A file is used if it is still the one that was loaded and
-   the section isn't compressed; of the section those FDEs that cover none of the addresses that .eh_frame covers.
-   Later walks use them. Call it again after dlopen of such modules. It takes locks, also the loader's, and allocates,
-   so no signal handler may call it, nor the child of a fork in a program with threads, nor a callback of
-   dl_iterate_phdr. Returns DWCHECK_DONE; or DWCHECK_NO_MEMORY, and then some modules may have been left out. */
+   code compiled with -fno-asynchronous-unwind-tables -g. In later walks, as in dwcheck_process_add_both, the row of an
+   address is that of .debug_frame, or if that has none, that of .eh_frame; and where .debug_frame has a row, .eh_frame
+   doesn't say that a frame is a signal frame. A file is used if it is still the one that was loaded; its section, if it
+   isn't compressed, and has no fault; and of the section the FDEs of code that the module has. Without these, a module
+   has the rows of .eh_frame alone. Call it again after dlopen of such modules. It takes locks, also the loader's, and
+   allocates, so no signal handler may call it, nor the child of a fork in a program with threads, nor a callback of
+   dl_iterate_phdr. It takes 1 KB of stack more than dwcheck_module_check. Returns DWCHECK_DONE; or DWCHECK_NO_MEMORY,
+   and then some modules may have been left out. */
 uint32_t dwcheck_dl_prepare(void);
 
 /* Makes walks use a section in the format of .eh_frame, of `length` bytes, for code that the loader doesn't know: of

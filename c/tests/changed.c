@@ -1,12 +1,12 @@
-/* Copies a .debug_frame section, in the 64-bit format, whose bytes change while it is copied, as those of a mapped file
-   do if the file is written to. The copy has as many bytes as were allocated for it. */
+/* Writes a .debug_frame section, in the 64-bit format, as one of .eh_frame, while its bytes change, as those of a mapped
+   file do if the file is written to. What is written has as many bytes as were allocated for it. */
 #include <stdint.h>
 #include <stdlib.h>
 #include <string.h>
 
 static void *changing_malloc(size_t size);
 #define malloc changing_malloc
-#include "../dl/both.c"
+#include "../dl/debug_frame.c"
 #undef malloc
 
 #include <stdio.h>
@@ -37,14 +37,12 @@ static void write_section(void) {
 }
 
 int main(void) {
-    dwcheck_module module = {.order = DWCHECK_LITTLE, .address_size = 8, .kind = DWCHECK_EH_FRAME}, other = module;
+    const dwcheck_module module = {.order = DWCHECK_LITTLE, .address_size = 8, .kind = DWCHECK_DEBUG_FRAME,
+                                   .frame = section, .frame_length = sizeof section};
     uint8_t *bytes = NULL;
     size_t length = 0;
     write_section();
-    other.kind = DWCHECK_DEBUG_FRAME;
-    other.frame = section;
-    other.frame_length = sizeof section;
-    uint32_t status = dwcheck_dl_both(&module, &other, 0x1000, 0x1fff, &bytes, &length);
+    uint32_t status = dwcheck_dl_as_eh_frame(&module, 0x1000, 0x1fff, &bytes, &length);
     printf("status %u, %zu bytes allocated, %zu written\n", (unsigned)status, allocated, length);
     free(bytes);
     return status != DWCHECK_DONE || length != allocated;

@@ -1,7 +1,7 @@
 #!/bin/bash
 # Builds the tests with the static library build/libdwcheck.a, or the one that LIBRARY names, and runs
-# them: those of readers.c, frozen.c, cursor.c, cache.c, dl.c, dl_modules.c, dl_contexts.c, dl_left.c, own_rows.c, both.c and changed.c; those of
-# in_place.c, kept_rows.c and kept_rows_of_stacks.c, plainly, with sanitizers and under valgrind; those of
+# them: those of readers.c, frozen.c, cursor.c, cache.c, dl.c, dl_modules.c, dl_contexts.c, dl_left.c, own_rows.c, both.c, both_rows.c,
+# prepared.c and changed.c; those of in_place.c, kept_rows.c and kept_rows_of_stacks.c, plainly, with sanitizers and under valgrind; those of
 # wrapper.cc, as C++17, as C++20 and over the module; and those of cases.c while allocations fail in turn,
 # with sanitizers, and under valgrind. Before that, the headers are compiled as C11, C17 and C++17; passing
 # a pointer of a wrong type must be an error.
@@ -128,9 +128,9 @@ own_rows() { # builds the tests of walks that interrupt the library, and runs th
         "$out/own_rows"
 }
 
-build_called() { # a library whose only function calls back
+build_called() { # FLAG..: a library whose only function calls back
     printf 'void call_back(void (*f)(void)); void call_back(void (*f)(void)) { f(); __asm__ volatile(""); }\n' |
-        cc -O2 -fPIC -shared -x c - -o "$out/called.so"
+        cc -O2 -fPIC -shared "$@" -x c - -o "$out/called.so"
 }
 
 build_dl() { # PROGRAM FLAG..: builds tests of dwcheck-dl
@@ -170,11 +170,20 @@ linked() { # FLAG..: builds a program that prints how many frames its stack has,
         [ "$("$out/linked")" = "4 frames" ]
 }
 
-# The same with the sources of dwcheck-dl compiled so, as those of the tests are.
-dl_modules_checked() { # FLAG..
+build_checked() { # PROGRAM FLAG..: builds tests of dwcheck-dl with its sources, all of which are compiled so
+    local program=$1
+    shift
     mkdir -p "$out/checked" && (cd "$out/checked" && rm -f ./* && cc -std=gnu11 -O1 -g -fPIC -fasynchronous-unwind-tables "$@" \
         "-I$top/c/include" -c "$top"/c/dl/*.c && ar rcs checked.a *.o) &&
-        dl_library=$out/checked/checked.a build_dl dl_modules "$@" && run_dl_modules
+        dl_library=$out/checked/checked.a build_dl "$program" "$@"
+}
+
+dl_modules_checked() { # FLAG..
+    build_checked dl_modules "$@" && run_dl_modules
+}
+
+prepared() { # FLAG..: builds so the tests of a library with rows in .debug_frame that comes and goes, and runs them
+    build_called -fno-asynchronous-unwind-tables -g && build_checked prepared "$@" && "$out/prepared" "$out/called.so"
 }
 
 # Without _dl_find_object, walks know the modules that were listed.
@@ -207,20 +216,35 @@ handler_of_page() {
         diff <(sed -n 's/^gdb //p' "$out/shown") <(sed -n 's/.*\[\(0x[0-9a-f]*\)\]$/\1/p' "$out/shown")
 }
 
-other_object() { # FLAG..: prints what both.c prints with another object of many functions that is compiled so
+link_both() { # OBJECT..: prints what both.c prints with other objects
+    cc -std=gnu11 $strict -O1 -fno-optimize-sibling-calls -c "$top/c/tests/both.c" -o "$out/both.o" &&
+        cc $links "$out/both.o" "$@" "$dl_library" "$library" -o "$out/both" -pthread -ldl && "$out/both"
+}
+
+other_object() { # FLAG..: the same with an object of many functions that is compiled so
     {
         printf 'int through(int (*f)(void)); int through(int (*f)(void)) { return f() + 1; }\n'
         seq 300 | sed 's/.*/int f&(int x); int f&(int x) { volatile int y[&]; y[0] = x; return y[0] + y[1]; }/'
-    } | cc -O1 -ffunction-sections "$@" -x c -c - -o "$out/other.o" &&
-        cc -std=gnu11 $strict -O1 -fno-optimize-sibling-calls -c "$top/c/tests/both.c" -o "$out/both.o" &&
-        cc $links "$out/both.o" "$out/other.o" $last "$dl_library" "$library" -o "$out/both" -pthread -ldl && "$out/both"
+    } | cc -O1 -ffunction-sections "$@" -x c -c - -o "$out/other.o" && link_both "$out/other.o" $last
+}
+
+# The same with two objects that have the same function. The linker keeps one, and all FDEs of .debug_frame.
+same_function() { # FLAG..
+    local name
+    for name in through other; do
+        printf 'inline __attribute__((noinline)) int same(int (*f)()) { return f() + 1; }\nextern "C" int %s(int (*f)()) { return same(f) + 1; }\n' "$name" |
+            c++ -O1 -fno-exceptions "$@" -x c++ -c - -o "$out/$name.o" || return 1
+    done
+    link_both "$out/through.o" "$out/other.o"
 }
 
 # Both stacks have the frames that glibc finds if all functions have rows in .eh_frame.
-both_sections() { # FLAG..: for the link
-    local links=$* last= want have
-    want=$(other_object | cut -d ' ' -f 2) &&
-        have=$(other_object -fno-asynchronous-unwind-tables -g | cut -d ' ' -f 1) &&
+both_sections() { # OBJECTS FLAG..: with these objects and flags for the link
+    local objects=$1 last= want have
+    shift
+    local links=$*
+    want=$($objects | cut -d ' ' -f 2) &&
+        have=$($objects -fno-asynchronous-unwind-tables -g | cut -d ' ' -f 1) &&
         readelf -SW "$out/both" | grep -q ' \.debug_frame ' && [ "$have" = "$want" ] || { printf '%s\nnot\n%s\n' "$have" "$want"; return 1; }
 }
 
@@ -229,12 +253,23 @@ changed_section() { # builds the test of a section that changes while it is copi
         "$out/changed"
 }
 
-# A .debug_frame section that is refused, since two of its FDEs share addresses, takes no rows of .eh_frame away.
+overlap() { # an object whose .debug_frame is refused, since two of its FDEs share addresses
+    printf '.text\nboth: nop\nnop\n.section .debug_frame\n.Lcie: .long 15, -1\n.byte 4, 0, 8, 0, 1, 0x78, 16, 0x0c, 7, 8, 0\n
+        .long 20, .Lcie\n.quad both, 2\n.long 20, .Lcie\n.quad both + 1, 1\n.section .note.GNU-stack\n' | cc -x assembler -c - -o "$out/overlap.o"
+}
+
+# Such a section takes no rows of .eh_frame away.
 refused_section() {
     local links= last="$out/overlap.o" want have
-    printf '.text\nboth: nop\nnop\n.section .debug_frame\n.Lcie: .long 12, -1\n.byte 4, 0, 8, 0, 1, 0x78, 16, 0\n
-        .long 20, .Lcie\n.quad both, 2\n.long 20, .Lcie\n.quad both + 1, 1\n.section .note.GNU-stack\n' | cc -x assembler -c - -o "$out/overlap.o"
-    have=$(other_object | cut -d ' ' -f 1) && want=$("$out/both" | cut -d ' ' -f 2) && [ "$have" = "$want" ]
+    overlap && have=$(other_object | cut -d ' ' -f 1) && want=$("$out/both" | cut -d ' ' -f 2) && [ "$have" = "$want" ]
+}
+
+both_rows() { # [OBJECT]: tests which rows come first; with an object for which .debug_frame is refused, only those of .eh_frame come
+    build_dl both_rows "$top/c/tests/both_rows.S" "$@" && "$out/both_rows" ${1:+refused}
+}
+
+refused_rows() {
+    overlap && both_rows "$out/overlap.o"
 }
 
 walks_under_valgrind() { # valgrind says nothing of a walk
@@ -360,6 +395,8 @@ test_of "stacks of dwcheck-dl are glibc's, while libraries come and go" dl_modul
 test_of "stacks of dwcheck-dl are glibc's, while libraries without build ids come and go" dl_modules -Wl,--build-id=none
 test_of "the same with TSan" dl_modules_checked -fsanitize=thread
 test_of "the same with ASan and UBSan" dl_modules_checked -fsanitize=address,undefined -fno-sanitize-recover=all
+test_of "a library with rows in .debug_frame that comes and goes, with TSan" prepared -fsanitize=thread
+test_of "the same with ASan and UBSan" prepared -fsanitize=address,undefined -fno-sanitize-recover=all
 test_of "walks from contexts of any registers end" dl dl_contexts
 test_of "walks that interrupt walks, or come after walks that were left" dl dl_left
 test_of "the handler of docs/OWN_STACKS.md prints gdb's stack" handler_of_page
@@ -374,10 +411,13 @@ test_of "a stack of a static program" linked -static
 test_of "a stack whose rows are in .debug_frame" linked -fno-asynchronous-unwind-tables -g
 test_of "a shared object with the archives exports only what it should" exports_nothing_else
 test_of "a stack under valgrind" walks_under_valgrind
-test_of "a stack whose rows are in both sections" both_sections
-test_of "a stack whose rows are in both sections, of a program without functions that aren't used" both_sections -Wl,--gc-sections
-test_of "the same, of a program whose headers and code are in one segment" both_sections -Wl,--gc-sections -Wl,-z,noseparate-code
+test_of "a stack whose rows are in both sections" both_sections other_object
+test_of "a stack whose rows are in both sections, of a program without functions that aren't used" both_sections other_object -Wl,--gc-sections
+test_of "the same, of a program whose headers and code are in one segment" both_sections other_object -Wl,--gc-sections -Wl,-z,noseparate-code
+test_of "a stack whose rows are in both sections, of two objects with the same function" both_sections same_function
 test_of "a stack of a program whose .debug_frame is refused" refused_section
+test_of "rows of .debug_frame come before those of .eh_frame" both_rows
+test_of "rows of a .debug_frame that is refused aren't used" refused_rows
 test_of "a .debug_frame that changes while it is copied" changed_section
 test_of "the header with libunwind's names as C11" unwind_header cc c11 c
 test_of "the header with libunwind's names as C++17" unwind_header c++ c++17 c++

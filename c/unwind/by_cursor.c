@@ -131,7 +131,7 @@ int dwcheck_unwind_by_cursor(struct cache *cache, struct frame *frame, struct me
     struct dwcheck_dl_module module;
     if (key == 0 || !dwcheck_unwind_module_at(key - 1, &module)) return -UNW_ENOINFO;
     struct step step = {.frame = frame, .memory = memory, .key = key, .places = places,
-                        .module = dwcheck_dl_section_of(&module), .header = dwcheck_dl_header_of(&module)};
+                        .module = dwcheck_dl_as_module(&module.eh_frame), .header = dwcheck_dl_as_header(&module.eh_frame)};
     do {
         step.status = DWCHECK_REFUSED;
         dwcheck_unwind_on_stack(cache, take, &step);

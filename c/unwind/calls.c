@@ -139,8 +139,8 @@ struct row_look_up { const struct dwcheck_dl_module *module; uint64_t address; d
 
 static void look_up(void *data) {
     struct row_look_up *wanted = data;
-    const dwcheck_module module = dwcheck_dl_section_of(wanted->module);
-    const dwcheck_header header = dwcheck_dl_header_of(wanted->module);
+    const dwcheck_module module = dwcheck_dl_as_module(&wanted->module->eh_frame);
+    const dwcheck_header header = dwcheck_dl_as_header(&wanted->module->eh_frame);
     dwcheck_rule rules[1];
     dwcheck_fault fault;
     uint32_t is_signal_frame;
@@ -167,10 +167,10 @@ int unw_reg_states_iterate(unw_cursor_t *cursor, unw_reg_states_callback callbac
     if (!callback) return -UNW_EINVAL;
     int result = dwcheck_unwind_procedure(own->frame.key - 1, &info);
     if (result == 0 && !dwcheck_unwind_module_at(own->frame.key - 1, &module)) result = -UNW_ENOINFO;
-    for (uint64_t address = info.start_ip; result >= 0 && address < info.end_ip; address = row.end + module.load_address) {
+    for (uint64_t address = info.start_ip; result >= 0 && address < info.end_ip; address = row.end + module.eh_frame.load_address) {
         if (!row_at(&module, address, &row)) return -UNW_EBADFRAME;
         struct row_state state = {ROW_MARK, address};
-        result = callback(token, &state, sizeof state, address, row.end + module.load_address);
+        result = callback(token, &state, sizeof state, address, row.end + module.eh_frame.load_address);
     }
     return result;
 }

@@ -132,7 +132,7 @@ static void take_slot(struct cache *cache, int number, const struct dwcheck_dl_o
     if (slot->module.object.end != 0) dwcheck_dl_rows_forget(&cache->rows, (uint32_t)number);
     dwcheck_dl_describe(object, &slot->module);
     if (slot->module.id_length == ID) memcpy(slot->id, slot->module.id, ID);
-    if (slot->module.frame_length != 0 && is_permanent(object)) cache->permanent |= UINT64_C(1) << number;
+    if (slot->module.eh_frame.frame_length != 0 && is_permanent(object)) cache->permanent |= UINT64_C(1) << number;
 }
 
 int dwcheck_unwind_slot(struct cache *cache, uint64_t address) {
@@ -145,7 +145,7 @@ int dwcheck_unwind_slot(struct cache *cache, uint64_t address) {
     const int number = slot_for(cache, &object);
     struct slot *slot = &cache->slots[number];
     if (slot->module.object.end == 0 || !is_same(slot, &object)) take_slot(cache, number, &object);
-    return slot->module.frame_length == 0 ? -1 : number;
+    return slot->module.eh_frame.frame_length == 0 ? -1 : number;
 }
 
 uint64_t dwcheck_unwind_permanent(const struct cache *cache) { return cache->permanent; }
@@ -163,8 +163,8 @@ struct filling { struct cache *cache; int slot; uint64_t address; uint32_t statu
 static void fill(void *data) {
     struct filling *filling = data;
     const struct dwcheck_dl_module *found = &filling->cache->slots[filling->slot].module;
-    const dwcheck_module module = dwcheck_dl_section_of(found);
-    const dwcheck_header header = dwcheck_dl_header_of(found);
+    const dwcheck_module module = dwcheck_dl_as_module(&found->eh_frame);
+    const dwcheck_header header = dwcheck_dl_as_header(&found->eh_frame);
     dwcheck_fault fault;
     filling->status = dwcheck_dl_rows_fill(&filling->cache->rows, (uint32_t)filling->slot, &module, &header, filling->address,
                                            &fault);

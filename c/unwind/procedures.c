@@ -59,8 +59,8 @@ int dwcheck_unwind_procedure(uint64_t address, unw_proc_info_t *info) {
     memset(info, 0, offsetof(unw_proc_info_t, extra)); /* libunwind 1.6 for aarch64 has no more of it */
     if (is_registered(address, info)) return 0;
     if (!dwcheck_unwind_module_at(address, &found)) return -UNW_ENOINFO;
-    const dwcheck_module module = dwcheck_dl_section_of(&found);
-    const dwcheck_header header = dwcheck_dl_header_of(&found);
+    const dwcheck_module module = dwcheck_dl_as_module(&found.eh_frame);
+    const dwcheck_header header = dwcheck_dl_as_header(&found.eh_frame);
     if (!record_of(&module, &header, address - module.load_address, &offset, &record)) return -UNW_ENOINFO;
     dwcheck_unwind_handlers(&module, offset, &record, &(struct in_process){0, 0, &dwcheck_unwind_own_memory}, info);
     info->start_ip = record.start + module.load_address, info->end_ip = record.end + module.load_address;

@@ -78,7 +78,8 @@ bool dwcheck_unwind_registered_table(uint64_t address, struct dwcheck_dl_module 
     uint64_t cie = fde + sizeof distance - distance, cie_end = end_of_record(cie);
     if (cie_end == 0) return false;
     uint64_t first = cie < fde ? cie : fde, end = cie < fde ? fde_end : cie_end;
-    *module = (struct dwcheck_dl_module){.object = {.first = info->start_ip, .end = info->end_ip}, .frame = (const uint8_t *)first,
-                                         .frame_length = end - first, .frame_address = first};
+    *module = (struct dwcheck_dl_module){
+        .object = {.first = info->start_ip, .end = info->end_ip},
+        .eh_frame = {.frame = (const uint8_t *)first, .frame_length = end - first, .frame_address = first}};
     return true;
 }

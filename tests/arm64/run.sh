@@ -98,6 +98,11 @@ modules() { # FLAG..: builds libraries that come and go, and runs the tests with
         emulate "$root" dl_modules "$out/called.so" "$out/small.so" "$out/large.so" "$out"/copy*.so
 }
 
+prepared() { # a library with rows in .debug_frame that comes and goes
+    printf 'void call_back(void (*f)(void)); void call_back(void (*f)(void)) { f(); __asm__ volatile(""); }\n' |
+        aarch64-linux-gnu-gcc -O2 -fPIC -shared $without_rows -x c - -o "$out/called.so" && c_test_with "$out/called.so" prepared
+}
+
 write_linked() { # a program with many functions, which says how many frames it finds
     {
         printf '#include "dwcheck-dl.h"\n#include <stdio.h>\nint main(void) {\n    void *frames[9];\n    dwcheck_dl_prepare();\n'
@@ -237,6 +242,8 @@ test_beside "arm64: stacks while libraries come and go, with signed return addre
 test_beside "arm64: a stack of a static program" linked -static
 test_beside "arm64: a stack whose rows are in .debug_frame" linked $without_rows
 test_beside "arm64: a stack whose rows are in .debug_frame, with signed return addresses" linked $without_rows -mbranch-protection=standard
+test_beside "arm64: rows of .debug_frame come before those of .eh_frame" c_test both_rows "$top/c/tests/both_rows.S"
+test_beside "arm64: a library with rows in .debug_frame that comes and goes" prepared
 test_beside "arm64: a stack over the shared libraries" shared
 test_beside "arm64: the header says how much stack walks take" "$top/tools/stack_use.py" --aarch64
 test_beside "arm64: types of libunwind have the same layout" unwind_layouts
