@@ -349,7 +349,7 @@ pub fn usual_fde<'a>(
 }
 
 /// The record that `eh_record` returns. `last` may be any CIE of the section: an FDE that has it
-/// doesn't read it again, so that a caller who goes through all records passes the CIE before them.
+/// doesn't read it again, so that a caller who goes through all records passes the CIE used last.
 #[inline(always)]
 #[tactic(auto, unfolding(crate::specs::Records::eh_record_at))]
 pub fn eh_record_after<'a>(

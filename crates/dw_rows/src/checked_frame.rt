@@ -196,12 +196,14 @@ fn check_programs<'a>(
 }
 
 /// Checks the CIE_pointers, then the programs, then that no address is covered by two FDEs. Returns
-/// what `check_programs` returns, and the index of the FDEs in order of address.
+/// what `check_programs` returns, and the index of the FDEs in order of address. `size` is how many
+/// bytes the section has.
 #[tactic(auto, unfolding(crate::specs::Section::parts_fault))]
 fn check_parts<'a>(
     alloc: Global,
     cies: &[CommonInformationEntry<'a>],
     fdes: &[FrameDescriptionEntry<'a>],
+    size: usize,
 ) -> Result<(CheckedPrograms<'a>, Vec<IndexEntry>), Fault>
     requires cies { Ascends cie_offset (map cie_of cies.now) }
     requires fdes { Ascends fde_offset (map fde_of fdes.now) }
@@ -216,7 +218,7 @@ fn check_parts<'a>(
     ensures index { IfOk result (λ parts. IsAddressIndex (map fde_of fdes.now) parts.1.items) }
 {
     let programs = check_programs(alloc, cies, fdes)?;
-    let index = index_of(alloc, fdes)?;
+    let index = index_of(alloc, fdes, size)?;
     check_overlap(fdes, &index)?;
     Ok((programs, index))
 }
@@ -241,7 +243,7 @@ pub fn check_records<'a>(
     ensures frame { IfOk result (λ frame. frame ≡ frame_by target section.now
         (map cie_of cies.entry.items) (map fde_of fdes.entry.items)) }
 {
-    let (programs, index) = check_parts(alloc, &cies, &fdes)?;
+    let (programs, index) = check_parts(alloc, &cies, &fdes, section.len())?;
     let CheckedPrograms {
         initial,
         expressions,

@@ -7,7 +7,7 @@ ghost use Rattle.dw_rows.specs.Section.{CoversOnce, IsCoverOf};
 ghost use Rattle.dw_rows.specs.AddressIndex.{fde_offset, fde_at, IsStride, IsCountUpTo, IsEntry, IsAddressIndex, ClashWithin, ApartWithin};
 ghost use Rattle.dw_rows.specs.AddressIndex.{AreApart, IsFirstOverlap};
 ghost use Rattle.dw_frame.specs.Bounds.{Ascends};
-ghost use Rattle.std.specs.List.Sorted.{IsNonDecreasingBy};
+ghost use Rattle.std.specs.List.Sorted.{IsNonDecreasingBy, IsPermutation};
 ghost use Rattle.dw_rows.specs.declared.index.IndexEntry.{IndexEntry};
 
 use dw_frame::FrameDescriptionEntry;
@@ -40,18 +40,41 @@ fn covering_some(
     Ok(index)
 }
 
-/// Index entries of the FDEs that cover at least one address, in order of address. Making them takes
-/// O(n log n) time for n FDEs. The stable sort merges runs that are in order already. Linkers write
-/// long runs of FDEs in order of address, so it takes half of the time of the unstable one.
+/// How many bytes of a section an FDE must take on average for the stable sort to be used. A check takes
+/// 64 bytes for an FDE, 16 for its index entry, and during this sort 16 more: so at most 2.5 bytes
+/// for a byte of the section.
+const USUAL_FDE: usize = 40;
+
+/// Whether a section of `size` bytes with `count` FDEs has FDEs of the usual size.
+fn are_usual(count: usize, size: usize) -> bool {
+    count <= size / USUAL_FDE
+}
+
+/// Sorts index entries by their starts. Linkers write long runs of FDEs in order of address, which the
+/// stable sort merges, in half of the time of the unstable one; but it takes a buffer as long as the
+/// index. Without `with_buffer`, or if memory for it can't be allocated, the sort is the unstable one.
+fn sort_by_start(index: &mut Vec<IndexEntry>, with_buffer: bool)
+    ensures permutation { IsPermutation index.old.items index.new.items }
+    ensures sorted { IsNonDecreasingBy (λ (e : IndexEntry). e.start) index.new.items }
+{
+    if with_buffer && let Ok(()) = index.sort_by_key(|entry| entry.start) {
+        return;
+    }
+    index.sort_unstable_by_key(|entry| entry.start);
+}
+
+/// Index entries of the FDEs that cover at least one address, in order of address. Making them
+/// takes O(n log n) time for n FDEs. `size` is how many bytes the section has.
 pub fn index_of(
     alloc: Global,
     fdes: &[FrameDescriptionEntry<'_>],
+    size: usize,
 ) -> Result<Vec<IndexEntry>, AllocError>
     requires { Ascends fde_offset (map fde_of fdes.now) }
     ensures { IfOk result (λ index. IsAddressIndex (map fde_of fdes.now) index.items) }
 {
     let mut index = covering_some(alloc, fdes)?;
-    index.sort_by_key(|entry| entry.start)?;
+    sort_by_start(&mut index, are_usual(fdes.len(), size));
     Ok(index)
 }
 

@@ -4,7 +4,7 @@ ghost use Rattle.std.specs.Prelude.{◌≡◌, ◌+◌, ◌<◌, ◌≤◌, All,
 ghost use Rattle.dw_tables.specs.CompiledTable.{IsNumbered, LacksRoom, entry_bytes, set_bytes, set_numbered, sets_bytes};
 ghost use Rattle.dw_tables.specs.NumberedPrograms.{rules_at};
 
-use crate::rule_sets::{RuleSets, bytes_of};
+use crate::rule_sets::{RuleSets, set_bytes};
 use crate::table_room::{Unmade, less_room};
 use dw_rules::UnwindState;
 use std::alloc::{AllocError, Global};
@@ -102,7 +102,7 @@ impl ChosenSets {
             (λ why. LacksRoom why self.old.room (set_bytes (rules_at sets.now index))) }
     {
         let (rules, _) = sets.lend(index as usize);
-        self.room = less_room(self.room, bytes_of(rules.entries.len()))?;
+        self.room = less_room(self.room, set_bytes(rules.entries.len()))?;
         let Ok(number) = u32::try_from(self.numbers.len()) else {
             return Err(Unmade::Memory);
         };

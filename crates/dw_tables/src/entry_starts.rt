@@ -57,8 +57,8 @@ impl Starts {
         })
     }
 
-    /// Appends an address. If memory can't be allocated, the list is unchanged. A near address for which
-    /// there is capacity is appended inline here, any other in `push_any`.
+    /// Appends an address. If memory can't be allocated, the list is unchanged. An address that goes to
+    /// `near`, where there is capacity, is appended inline here, any other in `push_any`.
     #[inline(always)]
     pub fn push(&mut self, start: u64) -> Result<(), AllocError>
         ensures { MatchResult result (λ _. self.new ≡ self.old ++ start ∷ []) (λ _. self.new ≡ self.old) }
@@ -72,7 +72,8 @@ impl Starts {
         self.push_any(start)
     }
 
-    /// What `push` does, for any address.
+    /// What `push` does, for any address. The contract doesn't say to which list it goes: that affects
+    /// only memory.
     #[inline(never)]
     fn push_any(&mut self, start: u64) -> Result<(), AllocError>
         ensures { MatchResult result (λ _. self.new ≡ self.old ++ start ∷ []) (λ _. self.new ≡ self.old) }

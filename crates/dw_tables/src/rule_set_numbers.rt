@@ -45,8 +45,8 @@ impl SetNumbers {
         })
     }
 
-    /// Appends a number. If memory can't be allocated, the list is unchanged. A number of two bytes for
-    /// which there is capacity is appended inline here, any other in `push_any`.
+    /// Appends a number. If memory can't be allocated, the list is unchanged. A number that goes to
+    /// `narrow`, where there is capacity, is appended inline here, any other in `push_any`.
     #[inline(always)]
     pub fn push(&mut self, number: u32) -> Result<(), AllocError>
         ensures { MatchResult result (λ _. self.new ≡ self.old ++ number ∷ []) (λ _. self.new ≡ self.old) }
@@ -60,7 +60,8 @@ impl SetNumbers {
         self.push_any(number)
     }
 
-    /// What `push` does, for any number.
+    /// What `push` does, for any number. The contract doesn't say to which list it goes: that affects only
+    /// memory.
     #[inline(never)]
     fn push_any(&mut self, number: u32) -> Result<(), AllocError>
         ensures { MatchResult result (λ _. self.new ≡ self.old ++ number ∷ []) (λ _. self.new ≡ self.old) }

@@ -15,14 +15,14 @@ use dw_rules::{
 use std::alloc::{AllocError, Global};
 use std::marker::Model;
 
-/// How many bytes a rule set takes, not counting its register rules. Its span and its return address
-/// register take at most this, with its elements of `RuleNumbers::links` and `ChosenSets::places`.
+/// At most how many bytes a rule set takes besides its register rules: its span, its return address
+/// register, and its elements of `RuleNumbers::links`, `ChosenSets::places` and `ChosenSets::numbers`.
 const SET_ROOM: usize = 64;
 
-const _: () = prove!(size_of::<RuleSpan>() + size_of::<u16>() + 2 * size_of::<u32>() <= SET_ROOM);
+const _: () = prove!(size_of::<RuleSpan>() + size_of::<u16>() + 3 * size_of::<u32>() <= SET_ROOM);
 
-/// How many bytes a rule set with `rules` register rules takes.
-pub fn bytes_of(rules: usize) -> usize
+/// At most how many bytes a rule set with `rules` register rules takes.
+pub fn set_bytes(rules: usize) -> usize
     requires { rules ≤ MAX_RULES }
     ensures { result ≡ 64 + 16 * rules }
 {
