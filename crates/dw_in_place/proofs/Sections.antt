@@ -88,13 +88,13 @@ in-eh (eh_fde e ∷ records) f (suc k, less, is) = let more = in-eh records f (k
 -- ---- an FDE of a section without fault
 
 -- Where it is read, its CIE among the section's, and that it has no fault in place.
-record IsGoodFde (is_aarch64 : Bool) (bases : Bases) (target : Target) (section : List ℕ) (e : EhFde) : Type 0 where
-  reads : ReadsFde is_aarch64 bases target section (read-of is_aarch64 bases target section) e
-  pointed : cie_at (eh_frame_of is_aarch64 bases target section).cies e.fde.cie_pointer ≡ Some e.cie.cie
-  none : fde_in_place_fault e ≡ None
-  alone_checked : IsChecked (alone target section e)
+pub record IsGoodFde (is_aarch64 : Bool) (bases : Bases) (target : Target) (section : List ℕ) (e : EhFde) : Type 0 where
+  pub reads : ReadsFde is_aarch64 bases target section (read-of is_aarch64 bases target section) e
+  pub pointed : cie_at (eh_frame_of is_aarch64 bases target section).cies e.fde.cie_pointer ≡ Some e.cie.cie
+  pub none : fde_in_place_fault e ≡ None
+  pub alone_checked : IsChecked (alone target section e)
 
-good-fde : (is_aarch64 : Bool) (bases : Bases) (target : Target) (section : List ℕ) → SectionFacts is_aarch64 bases target section
+pub good-fde : (is_aarch64 : Bool) (bases : Bases) (target : Target) (section : List ℕ) → SectionFacts is_aarch64 bases target section
     → (e : EhFde) → Contains (eh_fdes (read-of is_aarch64 bases target section)) e
     → Contains (eh_frame_of is_aarch64 bases target section).fdes e.fde → IsGoodFde is_aarch64 bases target section e
 good-fde is_aarch64 bases target section facts e among kept =

@@ -9,6 +9,8 @@ ghost use Rattle.dw_eh_frame.specs.declared.pointer.Bases.{Bases};
 ghost use Rattle.dw_eh_frame.specs.Records.{EhFde, eh_records_of};
 ghost use Rattle.dw_eh_rows.specs.Section.{eh_frame_of, eh_section_fault};
 ghost use Rattle.dw_eh_rows.specs.Signals.{eh_fdes};
+ghost use Rattle.dw_signed_rows.specs.SignedRows.{is_signed_in};
+ghost use Rattle.dw_signed_rows.specs.SignedSections.{is_signed_of};
 ghost use Rattle.dw_in_place.specs.InPlace.{fde_at, lying, row_of_fde};
 ghost use Rattle.dw_in_place.specs.LookUps.{GivesRow, LeadsToAll};
 ghost use Rattle.dw_in_place.specs.SearchTables.{Table, Finds, IsEntryFor, IsInOrder, IsLastBy, location_in};
@@ -49,6 +51,23 @@ pub fn rows_in_place_are_those_of_the_section()
     dw_eh_frame::laws::only_copies_are_left_out();
     dw_rows::laws::records_without_fault_are_good();
     dw_eh_rows::laws::exact_eh_rows();
+}
+
+/// If `check_eh_frame` accepts a section, the FDE that is found in place for an address says what the
+/// section says of the return address there: whether it is signed.
+pub fn signatures_in_place_are_those_of_the_section()
+    ensures { (is_aarch64 : Bool) (bases : Bases) (target : Target) (section : List ℕ)
+        → eh_section_fault is_aarch64 bases target section ≡ None → (e : EhFde)
+        → Contains (eh_fdes (values_in (eh_records_of is_aarch64 bases target section))) e
+        → Contains (eh_frame_of is_aarch64 bases target section).fdes e.fde → (a : ℕ) → Covers e.fde a
+        → is_signed_in e.cie.cie e.fde a ≡ is_signed_of (eh_frame_of is_aarch64 bases target section) a }
+{
+    dw_eh_frame::laws::sections_are_records();
+    dw_eh_frame::laws::records_lie_one_after_another();
+    dw_eh_frame::laws::only_copies_are_left_out();
+    dw_rows::laws::records_without_fault_are_good();
+    dw_eh_rows::laws::exact_eh_rows();
+    dw_signed_rows::laws::signed_sections_are_exact();
 }
 
 /// If `check_eh_frame` accepts a section, and a table leads to all its FDEs, a look-up by the table
