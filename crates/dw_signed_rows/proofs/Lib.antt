@@ -1,5 +1,6 @@
 mod SignatureSteps
 mod Programs
+mod NegatedPrograms
 mod Ranges
 mod Sections
 mod ExactSections

@@ -1,6 +1,6 @@
 -- Where the return address is signed in an FDE's program that is good, by the number of instructions
 -- that were run.
-use Rattle.std.specs.Prelude.{◌≡◌, ℕ, ◌+◌, Bool, true, false, not, List, map, reverse, take, Some, slice_get}
+use Rattle.std.specs.Prelude.{◌≡◌, ℕ, ◌+◌, Bool, true, false, not, List, [], ◌∷◌, map, reverse, take, Some, slice_get}
 use Rattle.dw_frame.specs.Instructions.{Instruction, negate_ra_state, restore_state}
 use Rattle.dw_frame.specs.Records.{Cie, Fde}
 use Rattle.dw_rows.specs.Clauses.{program_in}
@@ -30,3 +30,9 @@ pub record AreSignatures (cie : Cie) (fde : Fde) (good : IsGoodFdeProgram cie fd
   pub restore_state : (i j : ℕ) → Match (program_in cie fde good) i j → signed (j + 1) ≡ signed i
   pub kept : (k : ℕ) (x : Instruction) → slice_get (instructions_by good.items) k ≡ Some x
       → changes_signature x ≡ false → signed (k + 1) ≡ signed k
+
+-- whether the list has an odd number of negate_ra_states
+abbrev pub is_negated : List Instruction → Bool
+is_negated [] = false
+is_negated (negate_ra_state ∷ rest) = not (is_negated rest)
+is_negated (_ ∷ rest) = is_negated rest

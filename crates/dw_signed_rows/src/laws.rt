@@ -1,13 +1,15 @@
 //! Laws: what the definitions in `specs/` imply about where return addresses are signed. Each law
 //! is the contract of a function that does nothing.
 
-ghost use Rattle.std.specs.Prelude.{◌≡◌, ℕ, ◌≤◌, Bool, false, Some, Contains, length};
+ghost use Rattle.std.specs.Prelude.{◌≡◌, ℕ, ◌≤◌, Bool, false, None, Some, Contains, length};
+ghost use Rattle.dw_frame.specs.Codes.{instructions_of};
 ghost use Rattle.dw_frame.specs.Records.{Cie, Fde};
+ghost use Rattle.dw_rules.specs.ProgramFault.{cie_fault};
 ghost use Rattle.dw_rows.specs.Clauses.{program_in, start_in};
 ghost use Rattle.dw_rows.specs.GoodPrograms.{IsGoodFdeProgram, IsLast};
 ghost use Rattle.dw_rows.specs.Section.{Covers, FrameSection, IsChecked, cie_in};
-ghost use Rattle.dw_signed_rows.specs.SignedPrograms.{AreSignatures, signed_after};
-ghost use Rattle.dw_signed_rows.specs.SignedRows.{is_signed_in};
+ghost use Rattle.dw_signed_rows.specs.SignedPrograms.{AreSignatures, is_negated, signed_after};
+ghost use Rattle.dw_signed_rows.specs.SignedRows.{instructions_in, is_signed_in, signed_by_cie};
 ghost use Rattle.dw_signed_rows.specs.SignedSections.{is_signed_of};
 
 /// In an accepted section, whether the return address is signed at an address is what the FDE that
@@ -42,4 +44,11 @@ pub fn signatures_by_instruction()
     ensures only { (cie : Cie) (fde : Fde) → (good : IsGoodFdeProgram cie fde)
         → (signed : ℕ → Bool) → AreSignatures cie fde good signed
         → (k : ℕ) → k ≤ length good.items → signed k ≡ signed_after cie fde good k }
+{}
+
+/// A CIE's program leaves the return address signed if and only if it has an odd number of
+/// negate_ra_states. It has no remember_state and no restore_state.
+pub fn signatures_of_cies()
+    ensures { (cie : Cie) → cie_fault cie ≡ None
+        → signed_by_cie cie ≡ is_negated (instructions_in (instructions_of cie.program)) }
 {}
