@@ -107,7 +107,7 @@ fn load_modules(named: &[NamedModule], target: Target) -> Result<Loaded<'_>, Fai
             write_note(path, lost);
         }
         // Without its addresses, a further module's functions have no names here either.
-        if lost.map_or(false, |lost| lost.is_whole()) && !all.functions.is_empty() {
+        if lost.is_some() && !all.functions.is_empty() {
             continue;
         }
         all.functions.push((program.functions(), *load));

@@ -47,15 +47,13 @@ fn two_sections_of_a_file() {
     assert_eq!(cfa(&folder, "debug_alone _start"), None);
 }
 
-/// An FDE of `.eh_frame` isn't used if `.debug_frame` covers a part of its addresses.
+/// If `.debug_frame` covers a part of the addresses of an FDE of `.eh_frame`, the other addresses have its rows.
 #[test]
 fn fdes_that_are_covered_in_part() {
     let folder = Folder::new("covered-in-part");
     program(&folder, "part", &fde("g", 2));
-    let ran = dwcheck_elf(&folder, "unwind part g+3 state");
-    assert_eq!((ran.status, ran.out.as_str()), (0, "none\n"));
-    assert_eq!(ran.error, "dwcheck-elf: part: 1 FDEs aren't used: another section covers a part of them\n");
-    assert!(dwcheck_elf(&folder, "unwind part g+1 state").out.starts_with("cfa value 0x0000000000007f20\n"));
+    assert_eq!(cfa(&folder, "part g+1"), Some(32));
+    assert_eq!(cfa(&folder, "part g+3"), Some(8));
 }
 
 /// No two modules answer for one address, so a module that overlaps an earlier one isn't used.
@@ -108,20 +106,13 @@ fn taking_turns(folder: &Folder, count: usize) {
     folder.write("state", format!("sp 7\nreg 7 0x7f00\nmem 0x7f00 {}\n", "00".repeat(64)));
 }
 
-/// The sections of a file may take turns up to 64 times. If they do so more often, the first one counts from its first
-/// to its last address.
+/// The sections of a file may take turns as often as they like.
 #[test]
 fn sections_that_take_turns() {
     let folder = Folder::new("turns");
-    taking_turns(&folder, 64);
-    for number in [0, 1, 30, 31, 63] {
+    taking_turns(&folder, 80);
+    for number in [0, 1, 40, 41, 79] {
         let offset = if number % 2 == 0 { 32 } else { 8 };
         assert_eq!(cfa(&folder, &format!("turns f{}", number)), Some(offset), "{}", number);
     }
-    taking_turns(&folder, 80);
-    let ran = dwcheck_elf(&folder, "unwind turns f40 state");
-    assert!(ran.out.starts_with("cfa value 0x0000000000007f20\n"), "{}", ran.out);
-    assert_eq!(ran.error, "dwcheck-elf: turns: 39 FDEs aren't used: the sections take turns more than 64 times\n");
-    assert_eq!(dwcheck_elf(&folder, "unwind turns f41 state").out, "none\n");
-    assert!(dwcheck_elf(&folder, "unwind turns f79 state").out.starts_with("cfa value 0x0000000000007f08\n"));
 }
