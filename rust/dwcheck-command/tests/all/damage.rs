@@ -58,7 +58,10 @@ fn frames(program: &Program<'_>, source: Section<'_>) -> bool {
         None => frames,
     };
     match validate_rows(&rest, &rest.process(0).unwrap()) {
-        Ok(agreement) => assert_eq!(agreement.fdes, rest.used().filter(|one| one.addresses().is_some()).count()),
+        Ok(agreement) => {
+            assert_eq!(agreement, rest.check().unwrap());
+            assert_eq!(agreement.fdes, rest.used().filter(|one| one.addresses().is_some()).count());
+        }
         Err(difference) => assert!(matches!(difference.what, What::Unreadable(_)), "{}", difference),
     }
     fault.is_none()

@@ -2,7 +2,7 @@
 
 use crate::common::{place_of, Folder};
 use dwcheck::FaultKind;
-use dwcheck_elf::frames::{Format, FrameSection, Frames, Kind, Name, Record, RecordStatus};
+use dwcheck_elf::frames::{Format, FrameSection, Frames, Kind, Name, Record};
 use dwcheck_elf::one_by_one::{accepted_part, every_fault};
 use dwcheck_elf::program::{Program, Section};
 use dwcheck_elf::target::{AddressSize, Order, Target};
@@ -50,18 +50,23 @@ fn range(begin: u64, size: u64) -> Vec<u8> {
     [begin.to_le_bytes(), size.to_le_bytes()].concat()
 }
 
+/// A section without what is refused.
+fn without_refused<'a>(frames: &Frames<'a>) -> Frames<'a> {
+    let first = frames.process(0).unwrap_err().fault().unwrap();
+    accepted_part(frames, &every_fault(frames, first))
+}
+
 /// The CFA's offset in the row of an address, in the section without what is refused, and the number of records
 /// that are left out.
 fn rest(frames: &Frames<'_>, address: u64) -> (Option<i64>, usize) {
-    let first = frames.process(0).unwrap_err().fault().unwrap();
-    let rest = accepted_part(frames, &every_fault(frames, first));
+    let rest = without_refused(frames);
     let process = rest.process(0).unwrap();
-    validate_rows(&rest, &process).unwrap();
+    assert_eq!(rest.check().unwrap(), validate_rows(&rest, &process).unwrap());
     let offset = process.row(address).map(|row| match row.cfa {
         dwcheck::CfaRule::RegisterAndOffset { offset, .. } => offset,
         other => panic!("{:?}", other),
     });
-    (offset, rest.count(RecordStatus::LeftOut))
+    (offset, rest.left_out())
 }
 
 /// For some machines GNU as begins CIEs with def_cfa_register, where the CFA has no rule yet. It may be all of
@@ -126,11 +131,44 @@ fn records_that_cannot_be_read() {
         let fault = frames.process(0).unwrap_err().fault().unwrap();
         assert_eq!((fault.kind, fault.offset as usize), (kind, at + place), "{:x?}", record);
         assert_eq!(frames.record_of(&fault).map(|record| record.offset), Some(at as u64));
-        // Five bytes are neither a CIE nor records of length 0, so the section ends before them.
-        let (offset, left_out) = if record.len() == 5 { (None, 2) } else { (Some(8), 1) };
-        assert_eq!(rest(&frames, 0x4000), (offset, left_out), "{:x?}", record);
+        assert_eq!(rest(&frames, 0x4000), (Some(8), 1), "{:x?}", record);
         assert_eq!(rest(&frames, 0x2000).0, Some(8), "{:x?}", record);
+        assert!(!without_refused(&frames).is_changed(), "{:x?}", record);
     }
+}
+
+/// The library leaves out of `.eh_frame` what is refused: here an FDE that restores what wasn't remembered, and one
+/// whose CIE does so. It doesn't choose between FDEs that share addresses, so the later one and its copy lose their
+/// CIE. They aren't the CIE of another FDE, either.
+#[test]
+fn fdes_that_are_refused_and_fdes_that_share_addresses() {
+    let (good, bad) = (cie(b"\0", &[0x0c, 7, 8]), cie(b"\0", &[0x0b]));
+    let bad_cie = good.len();
+    let mut bytes = [good, bad].concat();
+    let mut add = |cie, begin, program: &[u8]| {
+        let at = bytes.len();
+        bytes.extend(fde(at - cie, &[&range(begin, 8), program].concat()));
+        at
+    };
+    add(0, 0x2000, &[0x0e, 16]);
+    add(0, 0x3000, &[0x0b]);
+    add(bad_cie, 0x4000, &[]);
+    add(0, 0x2000, &[0x0e, 16]);
+    let shared = add(0, 0x2004, &[0x0e, 24, 0, 0, 0, 0]);
+    add(0, 0x2004, &[0x0e, 24, 0, 0, 0, 0]);
+    add(shared, 0x6000, &[]);
+    add(0, 0x5000, &[0x0e, 32]);
+    let alone = eh_frame(&bytes[..shared]);
+    for (address, offset) in [(0x2000, Some(16)), (0x3000, None), (0x4000, None)] {
+        assert_eq!(rest(&alone, address), (offset, 3), "{:x}", address);
+    }
+    assert!(!without_refused(&alone).is_changed());
+    let all = eh_frame(&bytes);
+    let lost = [0x2008, 0x3000, 0x4000, 0x6000].map(|address| (address, None));
+    for (address, offset) in [(0x2000, Some(16)), (0x5000, Some(32))].into_iter().chain(lost) {
+        assert_eq!(rest(&all, address), (offset, 5), "{:x}", address);
+    }
+    assert_eq!(without_refused(&all).bytes().len(), bytes.len());
 }
 
 /// What isn't a record ends a section.

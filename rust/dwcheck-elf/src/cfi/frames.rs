@@ -1,8 +1,8 @@
 //! The frame sections of a program, in the form that the library takes: their bytes as edited, the records that are
 //! used, what is unresolved or signed.
 //!
-//! The library gets the bytes of the file, at their offsets. Only what it would refuse and is harmless, or
-//! is left out, is changed in place; `edits` has the list.
+//! The library gets the bytes of the file, at their offsets, and leaves out of `.eh_frame` what is refused. Only
+//! what it would refuse and is harmless, and what it can't leave out as it is, is changed in place; `edits` has the list.
 
 mod copies;
 mod counts;
@@ -25,7 +25,7 @@ pub use crate::elf::format::{Format, Name};
 
 use crate::elf::program::{Program, ProgramError, Section};
 use copies::mark_copies;
-use dwcheck::{Error, Fault, FaultKind, Process};
+use dwcheck::{EhFrame, Error, Fault, FaultKind, LeftOutRecord, Module, Process};
 use dwcheck_types::target::Target;
 use edits::{edit_records, Edited};
 use std::borrow::Cow;
@@ -195,9 +195,9 @@ impl<'data> Frames<'data> {
         self.used().any(|record| record.addresses().is_some())
     }
 
-    /// How many records have this standing.
-    pub fn count(&self, status: RecordStatus) -> usize {
-        self.records.iter().filter(|record| record.status == status).count()
+    /// How many records are left out.
+    pub fn left_out(&self) -> usize {
+        self.records.iter().filter(|record| record.is_left_out()).count()
     }
 
     /// The instructions that were changed.
@@ -263,15 +263,18 @@ impl<'data> Frames<'data> {
         }
     }
 
-    /// The section without the records at these offsets, and without the FDEs of such CIEs. If a record can't
-    /// be left out alone, those after it are left out, too.
-    pub fn without(&self, refused: &HashSet<u64>) -> Self {
+    /// The section without the records at the offsets `refused`, without the FDEs of such CIEs, and without the FDEs at
+    /// the offsets `shared`, which share an address with an earlier one. If a record can't be left out alone, those
+    /// after it are left out, too.
+    pub(crate) fn without(&self, refused: &HashSet<u64>, shared: &HashSet<u64>) -> Self {
         let mut rest = self.clone();
         for record in &mut rest.records {
             let is_refused = refused.contains(&record.offset)
                 || matches!(record.kind, Kind::Fde { cie, .. } if refused.contains(&cie));
             if is_refused {
-                record.status = RecordStatus::LeftOut;
+                record.status = RecordStatus::Refused;
+            } else if shared.contains(&record.offset) {
+                record.status = RecordStatus::Misplaced;
             }
         }
         let mut rest = rest.edited();
@@ -279,8 +282,34 @@ impl<'data> Frames<'data> {
         rest.records
             .iter_mut()
             .filter(|record| record.next > end)
-            .for_each(|record| record.status = RecordStatus::LeftOut);
+            .for_each(|record| record.status = RecordStatus::Refused);
         rest
+    }
+
+    /// What the library is told of an `.eh_frame` section: if records are left out, then to do so.
+    fn eh_frame(&self) -> Option<EhFrame> {
+        let section = self.section.format.eh_frame()?;
+        Some(if self.left_out() > 0 { section.leave_out_bad_records() } else { section })
+    }
+
+    /// The section as the library takes it. The error is the first fault of a record that the library leaves out, and
+    /// that is used here.
+    fn checked_section(&self) -> Result<dwcheck::FrameSection<'_>, Error> {
+        let section = self.section.format.section_as(self.bytes(), self.eh_frame());
+        if self.section.format.is_eh_frame() && self.left_out() > 0 {
+            let is_used = |one: &&LeftOutRecord| self.record(one.offset).map_or(true, Record::is_used);
+            if let Some(one) = section.left_out()?.iter().find(is_used) {
+                return Err(Error::Refused(one.fault));
+            }
+        }
+        Ok(section)
+    }
+
+    /// A module with [`bytes`](Frames::bytes), as the library takes it. It is loaded at `load`.
+    pub(crate) fn module(&self, load: u64) -> Module {
+        let mut module = self.section.format.module(self.bytes(), load);
+        module.eh_frame = self.eh_frame();
+        module
     }
 
     /// Checks the section, and counts what it has. No rows are compiled.
@@ -289,8 +318,8 @@ impl<'data> Frames<'data> {
     ///
     /// [`Error::Refused`] with the first fault; or [`Error::NoMemory`].
     pub fn check(&self) -> Result<Counts, Error> {
-        let counts = self.section.format.section(self.bytes()).check().map(Counts::of)?;
-        // For the library a record that is left out is a CIE.
+        let counts = self.checked_section()?.check().map(Counts::of)?;
+        // For the library a record of `.debug_frame` that is left out is a CIE.
         let cies = self.used().filter(|record| record.is_cie()).count();
         Ok(Counts { cies, ..counts })
     }
@@ -303,9 +332,9 @@ impl<'data> Frames<'data> {
     /// [`Error::Refused`] with the first fault; [`Error::NoMemory`]; or [`Error::NoRoom`] if the
     /// rows may take more than 64 times the section's bytes and more than 64 MiB.
     pub fn process(&self, load: u64) -> Result<Process, Error> {
+        self.checked_section()?;
         let mut process = Process::new(self.target());
-        let module = self.section.format.module(self.bytes(), load);
-        process.add(self.bytes(), module.range(0..=self.target().address_size.highest()))?;
+        process.add(self.bytes(), self.module(load).range(0..=self.target().address_size.highest()))?;
         Ok(process)
     }
 }
@@ -322,7 +351,7 @@ fn mark_unresolved(records: &mut [Record], format: &Format, source: &Section<'_>
     for record in records.iter_mut().filter(may_be_fde) {
         let place = range_of_body(&source.bytes, record.offset, format.target).map(|body| body.start as u64 + 4);
         if place.map_or(false, |place| source.unresolved.binary_search(&place).is_ok()) {
-            record.status = RecordStatus::LeftOut;
+            record.status = RecordStatus::Misplaced;
             marked.push(record.offset);
         }
     }

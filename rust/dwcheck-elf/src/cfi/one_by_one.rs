@@ -2,7 +2,7 @@
 //! as a whole.
 
 use crate::cfi::fde_ranges::FdeRanges;
-use crate::cfi::frames::{range_of_body, Format, Frames, Kind, Name, Record, RecordStatus};
+use crate::cfi::frames::{range_of_body, Format, Frames, Kind, Name, Record};
 use dwcheck::{Error, Fault, FaultKind, Process, Section};
 use std::collections::{HashMap, HashSet};
 use std::fmt;
@@ -98,10 +98,11 @@ pub fn every_fault(frames: &Frames<'_>, first: Fault) -> Vec<Found> {
 /// Leaves out of a section the CIEs and FDEs that have one of these faults, and FDEs whose CIE has one,
 /// so that the others can still be used. `faults` are those that [`every_fault`] lists.
 pub fn accepted_part<'data>(frames: &Frames<'data>, faults: &[Found]) -> Frames<'data> {
-    let unread = frames.used().filter(|record| matches!(record.kind, Kind::Unread(_)));
-    let refused: HashSet<u64> =
-        faults.iter().map(|found| found.record).chain(unread.map(|record| record.offset)).collect();
-    frames.without(&refused)
+    let unread = frames.used().filter(|record| matches!(record.kind, Kind::Unread(_))).map(|record| record.offset);
+    let (shared, refused): (Vec<&Found>, Vec<&Found>) =
+        faults.iter().partition(|found| found.fault.kind == FaultKind::Overlap);
+    let refused: HashSet<u64> = refused.iter().map(|found| found.record).chain(unread).collect();
+    frames.without(&refused, &shared.iter().map(|found| found.record).collect())
 }
 
 /// Why nothing of a section is used.
@@ -145,7 +146,7 @@ pub(crate) fn accepted_part_with_rows(frames: Frames<'_>) -> Result<(Frames<'_>,
         Err(error) => return Err(NotUsed::Library(name, error)),
     };
     let reason = fault.or_else(|| Some("Unresolved").filter(|_| !frames.unresolved().is_empty()));
-    let left_out = frames.count(RecordStatus::LeftOut);
+    let left_out = frames.left_out();
     let problem = reason.map(|reason| format!("{}: {}: {} of its records aren't used", name, reason, left_out));
     Ok((frames, process, problem))
 }

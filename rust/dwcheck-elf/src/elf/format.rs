@@ -66,7 +66,12 @@ impl Format {
 
     /// The section with these bytes, as the library takes it to check it or to read its records.
     pub fn section<'a>(&self, bytes: &'a [u8]) -> FrameSection<'a> {
-        match self.eh_frame() {
+        self.section_as(bytes, self.eh_frame())
+    }
+
+    /// The same, with what the library is told of an `.eh_frame` section.
+    pub(crate) fn section_as<'a>(&self, bytes: &'a [u8], eh_frame: Option<EhFrame>) -> FrameSection<'a> {
+        match eh_frame {
             Some(section) => FrameSection::eh_frame(bytes, section, self.target),
             None => FrameSection::debug_frame(bytes, self.target),
         }
@@ -82,7 +87,8 @@ impl Format {
         }
     }
 
-    fn eh_frame(&self) -> Option<EhFrame> {
+    /// What the library is told of an `.eh_frame` section. `None` for `.debug_frame`.
+    pub(crate) fn eh_frame(&self) -> Option<EhFrame> {
         let mut section = EhFrame::at(self.address);
         section.text_start = self.text.and_then(NonZeroU64::new);
         section.data_start = self.data.and_then(NonZeroU64::new);

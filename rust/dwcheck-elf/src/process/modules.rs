@@ -88,9 +88,9 @@ impl Modules {
         range: Option<RangeInclusive<u64>>,
         load: u64,
     ) -> Result<ModuleId, Error> {
-        let mut module = first.format().module(first.bytes(), load);
+        let mut module = first.module(load);
         module.range = range;
-        let second = second.map(|frames| (frames, frames.format().module(frames.bytes(), load)));
+        let second = second.map(|frames| (frames, frames.module(load)));
         match second.and_then(|(frames, module)| Some((frames, module.room, module.eh_frame?))) {
             Some((eh_frame, room, section)) => {
                 module.room = module.room.max(room);

@@ -1,4 +1,4 @@
-//! Changes a frame section in place where the library would refuse what is harmless, or what is left out.
+//! Changes a frame section in place where the library would refuse what is harmless, or what it can't leave out.
 //!
 //! Nothing moves: every offset in the changed bytes is the offset in the file's section.
 
@@ -40,17 +40,19 @@ pub struct Changes {
     pub args_sizes: Vec<u64>,
 }
 
-/// Changes what is harmless, and blanks out the records that aren't used: the CIEs, FDEs and records that can't
-/// be read which are left out, and in `.debug_frame` exact copies of an FDE and records of length 0.
+/// Changes what is harmless, and what the library can't leave out as it is.
 ///
-/// A record that is blanked out becomes a CIE that no FDE uses. If it is too short for one, it becomes records of
-/// length 0 in `.eh_frame`, and in `.debug_frame` a part of the record before it, whose instructions go on with
-/// `DW_CFA_nop`. The section ends where neither can be done.
+/// In `.eh_frame` these are FDEs whose address isn't known or is that of an earlier one, which lose their CIE. The
+/// section ends before a length that can't be read.
+///
+/// In `.debug_frame` these are all records that aren't used, exact copies of an FDE and records of length 0 among them.
+/// They become CIEs that no FDE uses, or if they are too short for that, a part of the record before them, whose
+/// instructions go on with `DW_CFA_nop`. The section ends where neither can be done.
 pub(super) fn edit_records<'a>(format: &Format, bytes: &'a [u8], records: &[Record]) -> Edited<'a> {
-    let is_whole = records.iter().all(|record| record.status != RecordStatus::LeftOut);
+    let has_misplaced = records.iter().any(|record| record.status == RecordStatus::Misplaced);
     let mut length = bytes.len();
     let (bytes, changes) = (Cow::Borrowed(bytes), Changes::default());
-    let mut edits = Edits { bytes, format, is_whole, changes, last: None };
+    let mut edits = Edits { bytes, format, has_misplaced, changes, last: None };
     for record in records {
         if !edits.take(record) {
             length = length.min(record.offset as usize);
@@ -63,8 +65,8 @@ pub(super) fn edit_records<'a>(format: &Format, bytes: &'a [u8], records: &[Reco
 struct Edits<'a, 'f> {
     bytes: Cow<'a, [u8]>,
     format: &'f Format,
-    /// Whether no record is left out.
-    is_whole: bool,
+    /// Whether FDEs are misplaced.
+    has_misplaced: bool,
     changes: Changes,
     /// The last record that further bytes can become a part of, if its instructions can be read.
     last: Option<Last>,
@@ -78,14 +80,20 @@ struct Last {
 }
 
 impl Edits<'_, '_> {
-    /// Takes the next record, changed or blanked out if that has to be. Returns false if the section has to end
-    /// before the record.
+    /// Takes the next record, changed if that has to be. Returns false if the section has to end before the record.
     fn take(&mut self, record: &Record) -> bool {
         let is_eh_frame = self.format.is_eh_frame();
         match (record.status, record.kind) {
-            // The library itself takes exact copies in `.eh_frame` once, unless the original is left out.
-            (RecordStatus::Copy, _) if is_eh_frame && self.is_whole => true,
-            (RecordStatus::Copy | RecordStatus::LeftOut, _) => {
+            // The library itself takes exact copies in `.eh_frame` once, unless the original is misplaced.
+            (RecordStatus::Copy, _) if is_eh_frame && !self.has_misplaced => true,
+            // It also leaves out what is refused there, if a length says where the next record begins.
+            (RecordStatus::Refused, _) if is_eh_frame => {
+                range_of_body(&self.bytes, record.offset, self.format.target).is_some()
+            }
+            // It doesn't know which addresses are unresolved, and doesn't choose between FDEs that share some.
+            (RecordStatus::Copy | RecordStatus::Misplaced, _) if is_eh_frame => self.part_from_cie(record),
+            // It leaves nothing out of `.debug_frame`.
+            (RecordStatus::Copy | RecordStatus::Refused | RecordStatus::Misplaced, _) => {
                 self.blank(record.range()) || self.append(record.range())
             }
             (RecordStatus::Used, Kind::Empty) if is_eh_frame => true,
@@ -103,18 +111,30 @@ impl Edits<'_, '_> {
         }
     }
 
-    /// Makes a CIE without instructions of whole records, or in `.eh_frame` records of length 0. Returns false if
-    /// neither fits.
+    /// Leads the CIE pointer of an FDE of `.eh_frame` to the FDE itself, so that the library leaves it out. Returns
+    /// false if its length can't be read.
+    fn part_from_cie(&mut self, fde: &Record) -> bool {
+        let body = match range_of_body(&self.bytes, fde.offset, self.format.target) {
+            Some(body) => body,
+            None => return false,
+        };
+        let mut pointer = Vec::with_capacity(4);
+        self.format.target.push(&mut pointer, body.start as u64 - fde.offset, 4);
+        if let Some(place) = self.bytes.to_mut().get_mut(body).and_then(|body| body.get_mut(..4)) {
+            place.copy_from_slice(&pointer);
+        }
+        true
+    }
+
+    /// Makes a CIE without instructions of whole records of `.debug_frame`. Returns false if it doesn't fit.
     fn blank(&mut self, range: Range<usize>) -> bool {
-        let (target, is_eh_frame) = (self.format.target, self.format.is_eh_frame());
-        let mut record = Vec::with_capacity(LEAST_CIE);
-        if range.len() >= LEAST_CIE && range.len() as u64 <= RESERVED_LENGTHS {
-            target.push(&mut record, range.len() as u64 - 4, 4);
-            target.push(&mut record, if is_eh_frame { 0 } else { u64::MAX }, 4);
-            record.extend([1, 0, 1, 1, 0]);
-        } else if !is_eh_frame || range.len() % 4 != 0 {
+        if range.len() < LEAST_CIE || range.len() as u64 > RESERVED_LENGTHS {
             return false;
         }
+        let mut record = Vec::with_capacity(LEAST_CIE);
+        self.format.target.push(&mut record, range.len() as u64 - 4, 4);
+        self.format.target.push(&mut record, u64::MAX, 4);
+        record.extend([1, 0, 1, 1, 0]);
         self.last = Some(Last { offset: range.start as u64, program: range.end..range.end, is_whole: None });
         if let Some(bytes) = self.bytes.to_mut().get_mut(range) {
             bytes.fill(NOP);
@@ -123,13 +143,13 @@ impl Edits<'_, '_> {
         true
     }
 
-    /// Makes whole records a part of the record before them. Returns false if that record's instructions can't be
-    /// read, so that the bytes would be taken for operands of the last one.
+    /// Makes whole records of `.debug_frame` a part of the record before them. Returns false if that record's
+    /// instructions can't be read, so that the bytes would be taken for operands of the last one.
     fn append(&mut self, range: Range<usize>) -> bool {
         let Format { target, .. } = *self.format;
         let last = match &mut self.last {
-            Some(last) if !self.format.is_eh_frame() => last,
-            _ => return false,
+            Some(last) => last,
+            None => return false,
         };
         let (held, program) = (&self.bytes, last.program.clone());
         let read = || instructions(held, program, target).all(|one| one.end.is_some());

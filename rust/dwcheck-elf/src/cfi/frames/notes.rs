@@ -31,7 +31,7 @@ impl Notes {
             args_sizes: changes.args_sizes.len(),
             negated: changes.negated.len(),
             empty_records: frames.records().iter().filter(|record| record.kind == Kind::Empty).count(),
-            copies: frames.count(RecordStatus::Copy),
+            copies: frames.records().iter().filter(|record| record.status == RecordStatus::Copy).count(),
             mended: changes.mended.len(),
         }
     }

@@ -59,8 +59,10 @@ pub enum RecordStatus {
     Used,
     /// It is an FDE that is an exact copy of an earlier one, and counts once.
     Copy,
-    /// It is left out: it or its CIE is refused, or its address isn't known.
-    LeftOut,
+    /// It is left out: it or its CIE is refused, or the section ends before it.
+    Refused,
+    /// It is an FDE that is left out: its address isn't known, or an earlier FDE covers one of its addresses.
+    Misplaced,
 }
 
 impl Record {
@@ -93,6 +95,11 @@ impl Record {
     /// Whether it is used.
     pub fn is_used(&self) -> bool {
         self.status == RecordStatus::Used
+    }
+
+    /// Whether it is left out. A copy isn't, since what it says is used.
+    pub fn is_left_out(&self) -> bool {
+        matches!(self.status, RecordStatus::Refused | RecordStatus::Misplaced)
     }
 
     /// The same record in a section in which it begins at this offset.

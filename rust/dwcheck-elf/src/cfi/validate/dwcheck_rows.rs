@@ -119,7 +119,7 @@ impl<'r> RowSource<'r> for DwcheckRows<'_> {
 pub fn validate_rows(frames: &Frames<'_>, process: &Process) -> Result<Counts, Difference> {
     let comparable = comparable_bytes(frames);
     let (order, address_size) = (frames.target().gimli_order(), frames.target().address_size.bytes());
-    let has_gaps = frames.count(RecordStatus::LeftOut) > 0;
+    let has_gaps = frames.left_out() > 0;
     match frames.name() {
         Name::EhFrame => {
             let mut section = gimli::EhFrame::new(&comparable, order);
@@ -179,7 +179,8 @@ where
     /// Compares a record, unless it is left out, and counts it, unless it is a copy.
     fn record(&self, record: &Record, agreement: &mut Counts, room: &mut Room<'a>) -> Result<(), What> {
         match (record.status, record.kind) {
-            (RecordStatus::LeftOut, _) | (_, Kind::Empty | Kind::Unread(_)) => {}
+            _ if record.is_left_out() => {}
+            (_, Kind::Empty | Kind::Unread(_)) => {}
             // A copy's rows are those of the FDE that it is a copy of, which may be left out.
             (RecordStatus::Copy, _) if self.has_gaps => {}
             (status, Kind::Fde { begin, end, .. }) => {
