@@ -1,5 +1,6 @@
 /* Reads .debug_frame of modules, for walks that come later. */
 #define _GNU_SOURCE
+#include "caches.h"
 #include "debug_frame.h"
 #include "dwcheck-dl.h"
 #include "files.h"
@@ -121,13 +122,17 @@ struct preparation {
     bool is_changed;
 };
 
-/* Describes the module of an entry of the loader's list. */
+/* Describes the module of an entry of the loader's list. It counts as a reader, since another thread may replace what
+   it reads; but not for longer, so that what is retired later in this call can be freed in it. */
 static bool describe(const struct dl_phdr_info *info, struct dwcheck_dl_module *module) {
     struct dwcheck_dl_object object;
     struct code code;
-    if (!find_code(info, &code) || !dwcheck_dl_find(info->dlpi_addr + code.first, &object) || object.map == NULL) return false;
-    dwcheck_dl_describe(&object, module);
-    return true;
+    if (!find_code(info, &code)) return false;
+    dwcheck_dl_begin_reading();
+    const bool is_found = dwcheck_dl_find(info->dlpi_addr + code.first, &object) && object.map != NULL;
+    if (is_found) dwcheck_dl_describe(&object, module);
+    dwcheck_dl_end_reading();
+    return is_found;
 }
 
 static uint32_t make_for(const struct dl_phdr_info *info, struct made **made) {
