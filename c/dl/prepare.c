@@ -34,10 +34,12 @@ static struct dwcheck_dl_retired *retired;
 
 uint64_t dwcheck_dl_preparations(void) { return atomic_load(&preparations); }
 
-/* Whether a section was made for the module that is described. */
+/* Whether a section was made for the module that is described. Where modules are listed, each list has entries of its
+   own for them. */
 static bool is_for(const struct made *made, const struct dwcheck_dl_module *module) {
     return made->object.first == module->object.first && made->object.end == module->object.end
-           && made->object.map == module->object.map && made->identity == module->identity && made->layout == module->layout;
+           && (made->object.map == module->object.map || !DWCHECK_DL_HAS_FIND_OBJECT)
+           && made->identity == module->identity && made->layout == module->layout;
 }
 
 static struct made *find(const struct dwcheck_dl_module *module) {

@@ -1,7 +1,7 @@
 #!/bin/bash
 # Builds the tests with the static library build/libdwcheck.a, or the one that LIBRARY names, and runs
 # them: those of readers.c, frozen.c, cursor.c, cache.c, dl.c, dl_modules.c, dl_contexts.c, dl_left.c, own_rows.c, both.c, both_rows.c,
-# prepared.c and changed.c; those of in_place.c, kept_rows.c and kept_rows_of_stacks.c, plainly, with sanitizers and under valgrind; those of
+# prepared.c, prepared_once.c and changed.c; those of in_place.c, kept_rows.c and kept_rows_of_stacks.c, plainly, with sanitizers and under valgrind; those of
 # wrapper.cc, as C++17, as C++20 and over the module; and those of cases.c while allocations fail in turn,
 # with sanitizers, and under valgrind. Before that, the headers are compiled as C11, C17 and C++17; passing
 # a pointer of a wrong type must be an error.
@@ -187,10 +187,14 @@ prepared() { # FLAG..: builds so the tests of a library with rows in .debug_fram
 }
 
 # Without _dl_find_object, walks know the modules that were listed.
-by_list() {
+by_list() { # TEST: runs a test with such a library
     mkdir -p "$out/list" && (cd "$out/list" && cc -std=gnu11 -O2 -fPIC -fasynchronous-unwind-tables -Wall -Wextra -Werror \
         -DDWCHECK_DL_WITH_LIST "-I$top/c/include" -c "$top"/c/dl/*.c && ar rcs list.a *.o) &&
-        dl_library=$out/list/list.a linked
+        dl_library=$out/list/list.a "$1"
+}
+
+prepared_once() { # a library with rows in .debug_frame keeps them
+    build_called -fno-asynchronous-unwind-tables -g && build_dl prepared_once && "$out/prepared_once" "$out/called.so"
 }
 
 # Over the shared library, which exports what its header declares and nothing else.
@@ -401,7 +405,9 @@ test_of "walks from contexts of any registers end" dl dl_contexts
 test_of "walks that interrupt walks, or come after walks that were left" dl dl_left
 test_of "the handler of docs/OWN_STACKS.md prints gdb's stack" handler_of_page
 test_of "stacks over the shared library" shared
-test_of "a stack where modules are listed" by_list
+test_of "a stack where modules are listed" by_list linked
+test_of "rows of .debug_frame stay" prepared_once
+test_of "rows of .debug_frame stay where modules are listed" by_list prepared_once
 test_of "the header says how much stack walks take" env "LIBRARY=$library" "DL_LIBRARY=$dl_library" "$top/tools/stack_use.py"
 test_of "rows are given to the code of a module, which stays the same" rows_of_modules
 test_of "a module without attributes is compiled" modules_without_attributes
