@@ -1,6 +1,7 @@
 /* Reads the files of modules: their section tables, and whether a file is still the one that was loaded. */
 #define _GNU_SOURCE
 #include "files.h"
+#include "memory.h"
 
 #include <elf.h>
 #include <fcntl.h>
@@ -51,6 +52,19 @@ static const ElfW(Shdr) *section_of(bytes file, const char *wanted) {
     return NULL;
 }
 
+/* Whether memory is as the file is from an offset on. Memory that can't be read isn't. */
+static bool is_same(bytes file, uint64_t offset, uint64_t first, uint64_t length) {
+    enum { PAGE = 4096 };
+    if (!is_inside(file, offset, length)) return false;
+    for (uint64_t at = 0, count; at < length; at += count) {
+        count = PAGE - (first + at) % PAGE;
+        if (count > length - at) count = length - at;
+        if (dwcheck_dl_is_unreadable(first + at)) return false;
+        if (memcmp(file.first + offset + at, (const void *)(uintptr_t)(first + at), count) != 0) return false;
+    }
+    return true;
+}
+
 /* Whether the segments of this type that are writable and executable as `flags` say are in memory as they are
    in the file. */
 static bool has_same(bytes file, const struct dl_phdr_info *info, uint32_t type, uint32_t flags) {
@@ -58,11 +72,21 @@ static bool has_same(bytes file, const struct dl_phdr_info *info, uint32_t type,
         const ElfW(Phdr) *segment = &info->dlpi_phdr[i];
         uint64_t first = info->dlpi_addr + segment->p_vaddr, end = dwcheck_dl_end_of_segment(info, first);
         if (segment->p_type == type && (segment->p_flags & (PF_W | PF_X)) == flags && end != 0
-            && segment->p_filesz <= end - first && (!is_inside(file, segment->p_offset, segment->p_filesz)
-                || memcmp(file.first + segment->p_offset, (const void *)first, segment->p_filesz) != 0))
+            && segment->p_filesz <= end - first && !is_same(file, segment->p_offset, first, segment->p_filesz))
             return false;
     }
     return true;
+}
+
+/* Whether the file has a build id where it is in memory. */
+static bool has_id(bytes file, const struct dl_phdr_info *info, bytes id) {
+    for (size_t i = 0; i < info->dlpi_phnum; i++) {
+        const ElfW(Phdr) *segment = &info->dlpi_phdr[i];
+        const uint64_t within = (uintptr_t)id.first - info->dlpi_addr - segment->p_vaddr;
+        if (segment->p_type == PT_NOTE && within < segment->p_filesz)
+            return is_same(file, segment->p_offset + within, (uintptr_t)id.first, id.length);
+    }
+    return false;
 }
 
 /* Whether a file is the one that was loaded: its segments and its notes are those in memory. */
@@ -83,8 +107,9 @@ struct dwcheck_dl_bytes dwcheck_dl_map_file(const struct dl_phdr_info *info) {
     return (bytes){NULL, 0};
 }
 
-struct dwcheck_dl_bytes dwcheck_dl_debug_frame_of(bytes file, const struct dl_phdr_info *info) {
+struct dwcheck_dl_bytes dwcheck_dl_debug_frame_of(bytes file, const struct dl_phdr_info *info, bytes id) {
     const ElfW(Shdr) *section = section_of(file, ".debug_frame");
-    if (section == NULL || !has_same(file, info, PT_LOAD, PF_X)) return (bytes){NULL, 0};
+    if (section == NULL || !(id.length != 0 ? has_id(file, info, id) : has_same(file, info, PT_LOAD, PF_X)))
+        return (bytes){NULL, 0};
     return (bytes){file.first + section->sh_offset, section->sh_size};
 }

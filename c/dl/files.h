@@ -12,9 +12,11 @@
    Else, or if it can't be read, the length is 0. munmap takes it back. */
 DWCHECK_DL_HIDDEN struct dwcheck_dl_bytes dwcheck_dl_map_file(const struct dl_phdr_info *info);
 
-/* The .debug_frame section of such a file, if it isn't compressed, and if the code in memory is that of the file:
-   without a build id among the notes, only this tells whether the file has been replaced. Else of length 0. */
+/* The .debug_frame section of such a file, if it isn't compressed. The file must have the module's build id, since code
+   in memory may be changed, as debuggers do; or if the module has none, and `id` is of length 0, the code in memory must
+   be that of the file, which alone tells then whether the file has been replaced. Else of length 0. */
 DWCHECK_DL_HIDDEN struct dwcheck_dl_bytes dwcheck_dl_debug_frame_of(struct dwcheck_dl_bytes file,
-                                                                    const struct dl_phdr_info *info);
+                                                                    const struct dl_phdr_info *info,
+                                                                    struct dwcheck_dl_bytes id);
 
 #endif

@@ -137,10 +137,11 @@ static bool describe(const struct dl_phdr_info *info, struct dwcheck_dl_module *
     return is_found;
 }
 
-static uint32_t make_for(const struct dl_phdr_info *info, struct made **made) {
+static uint32_t make_for(const struct dl_phdr_info *info, const struct dwcheck_dl_module *module, struct made **made) {
+    const struct dwcheck_dl_bytes id = {module->id, module->layout == 0 ? module->id_length : 0}; /* its build id */
     const struct dwcheck_dl_bytes file = dwcheck_dl_map_file(info);
     if (file.length == 0) return DWCHECK_NONE;
-    const uint32_t status = make(made, info, dwcheck_dl_debug_frame_of(file, info));
+    const uint32_t status = make(made, info, dwcheck_dl_debug_frame_of(file, info, id));
     munmap((void *)file.first, file.length);
     return status;
 }
@@ -152,7 +153,7 @@ static int look(struct dl_phdr_info *info, size_t size, void *data) {
     (void)size;
     if (!describe(info, &module)) return 0;
     if ((made = find(&module)) != NULL) return made->is_there = true, 0;
-    const uint32_t status = make_for(info, &made);
+    const uint32_t status = make_for(info, &module, &made);
     if (status == DWCHECK_NO_MEMORY) preparation->status = status;
     if (status != DWCHECK_DONE) return 0;
     made->object = module.object, made->identity = module.identity, made->layout = module.layout, made->is_there = true;

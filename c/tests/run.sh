@@ -193,8 +193,12 @@ by_list() { # TEST: runs a test with such a library
         dl_library=$out/list/list.a "$1"
 }
 
-prepared_once() { # a library with rows in .debug_frame keeps them
-    build_called -fno-asynchronous-unwind-tables -g && build_dl prepared_once && "$out/prepared_once" "$out/called.so"
+prepared_once() { # a library with rows in .debug_frame keeps them, also if its code is changed in memory
+    build_called -fno-asynchronous-unwind-tables -g -Wl,--build-id && build_dl prepared_once && "$out/prepared_once" "$out/called.so"
+}
+
+prepared_without_id() { # has them only while its code is that of its file, if it has no build id
+    build_called -fno-asynchronous-unwind-tables -g -Wl,--build-id=none && build_dl prepared_once && "$out/prepared_once" "$out/called.so" no-id
 }
 
 # Over the shared library, which exports what its header declares and nothing else.
@@ -407,6 +411,7 @@ test_of "the handler of docs/OWN_STACKS.md prints gdb's stack" handler_of_page
 test_of "stacks over the shared library" shared
 test_of "a stack where modules are listed" by_list linked
 test_of "rows of .debug_frame stay" prepared_once
+test_of "rows of .debug_frame of a module without a build id" prepared_without_id
 test_of "rows of .debug_frame stay where modules are listed" by_list prepared_once
 test_of "the header says how much stack walks take" env "LIBRARY=$library" "DL_LIBRARY=$dl_library" "$top/tools/stack_use.py"
 test_of "rows are given to the code of a module, which stays the same" rows_of_modules
