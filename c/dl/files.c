@@ -14,7 +14,7 @@ typedef struct dwcheck_dl_bytes bytes;
 
 static bytes map_file(const char *name) {
     bytes file = {NULL, 0};
-    int fd = open(name, O_RDONLY | O_CLOEXEC);
+    int fd = open(name, O_RDONLY | O_CLOEXEC | O_NONBLOCK); /* for a FIFO it would wait */
     struct stat status;
     if (fd >= 0 && fstat(fd, &status) == 0 && S_ISREG(status.st_mode) && status.st_size > 0) {
         void *first = mmap(NULL, (size_t)status.st_size, PROT_READ, MAP_PRIVATE, fd, 0);
