@@ -34,23 +34,65 @@ static bool is_64_bit(const dwcheck_module *module, uint64_t offset) {
     return length == 0xffffffff;
 }
 
-/* Reads all records of a section. Returns DWCHECK_DONE; or why one can't be read, or DWCHECK_NO_MEMORY. */
+/* The parts of a record of .debug_frame: where it ends, where what follows its CIE_pointer or its id begins, and the
+   pointer, which in a CIE is all ones. */
+struct parts {
+    uint64_t next, rest, cie;
+    bool is_cie;
+};
+
+static bool find_parts(const dwcheck_module *module, uint64_t offset, struct parts *parts) {
+    const uint64_t end = module->frame_length;
+    uint64_t length = 0, ones = UINT32_MAX, size = sizeof(uint32_t), at = offset + size;
+    if (offset > end || end - offset < size) return false;
+    memcpy(&length, module->frame + offset, size);
+    if (length == UINT32_MAX) {
+        ones = UINT64_MAX, size = sizeof ones;
+        if (end - at < size) return false;
+        memcpy(&length, module->frame + at, size);
+        at += size;
+    }
+    if (length > end - at || length < size) return false;
+    *parts = (struct parts){.next = at + length, .rest = at + size};
+    memcpy(&parts->cie, module->frame + at, size);
+    parts->is_cie = parts->cie == ones;
+    return true;
+}
+
+/* Whether the record at this offset of .debug_frame is a CIE with an augmentation, as assemblers write for functions
+   that are frames of signals, or an FDE of such a CIE; and which record comes next. */
+static bool is_augmented(const dwcheck_module *module, uint64_t offset, uint64_t *next) {
+    struct parts parts;
+    if (module->kind != DWCHECK_DEBUG_FRAME || !find_parts(module, offset, &parts)) return false;
+    *next = parts.next;
+    if (!parts.is_cie && (!find_parts(module, parts.cie, &parts) || !parts.is_cie)) return false;
+    return parts.next - parts.rest >= 2 && module->frame[parts.rest + 1] != 0; /* the version comes before it */
+}
+
+static bool add_record(struct records *records, const struct record *record) {
+    if (records->count == records->room) {
+        size_t room = records->room ? 2 * records->room : 64;
+        struct record *bigger = realloc(records->first, room * sizeof *bigger);
+        if (!bigger) return false;
+        records->first = bigger;
+        records->room = room;
+    }
+    records->first[records->count++] = *record;
+    return true;
+}
+
+/* Reads all records of a section, but for those with augmentations in .debug_frame, which would be refused. Returns
+   DWCHECK_DONE; or why one can't be read, or DWCHECK_NO_MEMORY. */
 static uint32_t read_records(const dwcheck_module *module, struct records *records) {
     dwcheck_record record;
     dwcheck_fault fault;
     for (uint64_t offset = 0;; offset = record.next) {
+        if (is_augmented(module, offset, &record.next)) continue;
         uint32_t status = module->frame_length == 0 ? DWCHECK_NONE : dwcheck_record_at(module, offset, &record, &fault);
         if (status != DWCHECK_DONE) return status == DWCHECK_NONE ? DWCHECK_DONE : status;
-        if (records->count == records->room) {
-            size_t room = records->room ? 2 * records->room : 64;
-            struct record *bigger = realloc(records->first, room * sizeof *bigger);
-            if (!bigger) return DWCHECK_NO_MEMORY;
-            records->first = bigger;
-            records->room = room;
-        }
-        records->first[records->count++] =
-            (struct record){.offset = offset, .next = record.next, .start = record.start, .end = record.end, .cie = record.cie,
-                            .kind = record.kind, .is_64_bit = is_64_bit(module, offset)};
+        const struct record one = {.offset = offset, .next = record.next, .start = record.start, .end = record.end,
+                                   .cie = record.cie, .kind = record.kind, .is_64_bit = is_64_bit(module, offset)};
+        if (!add_record(records, &one)) return DWCHECK_NO_MEMORY;
     }
 }
 

@@ -197,6 +197,17 @@ prepared_once() { # a library with rows in .debug_frame keeps them, also if its 
     build_called -fno-asynchronous-unwind-tables -g -Wl,--build-id && build_dl prepared_once && "$out/prepared_once" "$out/called.so"
 }
 
+signal_frame() { # an object whose .debug_frame has a function with an augmentation in its CIE
+    printf '.cfi_sections .debug_frame\n.text\n.cfi_startproc\n.cfi_signal_frame\nnop\n.cfi_endproc\n.section .note.GNU-stack\n' |
+        cc -x assembler -c - -o "$out/signal_frame.o"
+}
+
+prepared_beside_signal_frame() { # a function of which no row is read doesn't cost the others theirs
+    signal_frame && printf 'void call_back(void (*f)(void)); void call_back(void (*f)(void)) { f(); __asm__ volatile(""); }\n' |
+        cc -O2 -fPIC -shared -fno-asynchronous-unwind-tables -g -Wl,--build-id -x c - -x none "$out/signal_frame.o" -o "$out/called.so" &&
+        build_dl prepared_once && "$out/prepared_once" "$out/called.so"
+}
+
 prepared_without_id() { # has them only while its code is that of its file, if it has no build id
     build_called -fno-asynchronous-unwind-tables -g -Wl,--build-id=none && build_dl prepared_once && "$out/prepared_once" "$out/called.so" no-id
 }
@@ -412,6 +423,7 @@ test_of "stacks over the shared library" shared
 test_of "a stack where modules are listed" by_list linked
 test_of "rows of .debug_frame stay" prepared_once
 test_of "rows of .debug_frame of a module without a build id" prepared_without_id
+test_of "rows of .debug_frame beside those of a signal frame" prepared_beside_signal_frame
 test_of "rows of .debug_frame stay where modules are listed" by_list prepared_once
 test_of "the header says how much stack walks take" env "LIBRARY=$library" "DL_LIBRARY=$dl_library" "$top/tools/stack_use.py"
 test_of "rows are given to the code of a module, which stays the same" rows_of_modules
