@@ -117,12 +117,21 @@ uint32_t dwcheck_dl_thread(void);
 /* Reads .debug_frame of the modules that are loaded, from their files: for code without rows in .eh_frame, such as C
    code compiled with -fno-asynchronous-unwind-tables -g. In later walks, as in dwcheck_process_add_both, the row of an
    address is that of .debug_frame, or if that has none, that of .eh_frame; and where .debug_frame has a row, .eh_frame
-   doesn't say that a frame is a signal frame. A file is used if it is still the one that was loaded; its section, if it
-   isn't compressed, and has no fault; and of the section the FDEs of code that the module has. Without these, a module
-   has the rows of .eh_frame alone. Call it again after dlopen of such modules. It takes locks, also the loader's, and
-   allocates, so no signal handler may call it, nor the child of a fork in a program with threads, nor a callback of
-   dl_iterate_phdr. It takes 1 KB of stack more than dwcheck_module_check. Returns DWCHECK_DONE; or DWCHECK_NO_MEMORY,
-   and then some modules may have been left out. */
+   doesn't say that a frame is a signal frame. A file is used if it is still the one that was loaded: if its notes, with
+   the build id, are those in memory, or without a build id, also its code. Its section is used if it isn't compressed,
+   and has no fault; and of the section the FDEs of code that the module has, but for those whose CIE has an
+   augmentation, and those of code 2 GB or more after the module's first. Without these, a module has the rows of
+   .eh_frame alone. Call it again after dlopen of such modules.
+   - Modules of other namespaces than the caller's (dlmopen) aren't prepared. A file is found by its name: not if that is
+     relative and the program has changed its folder since, nor if the program was started as an argument of the loader.
+     Separate files of debug information (.gnu_debuglink) aren't looked for.
+   - Meanwhile nothing may shorten these files in place, which would raise SIGBUS. A linker or package manager that writes
+     a new file and renames it does no harm.
+   - If siglongjmp has left a walk, which keeps its cache, what is replaced later isn't freed any more: neither by this
+     call, nor by those that register code.
+   It takes locks, also the loader's, and allocates, so no signal handler may call it, nor the child of a fork in a program
+   with threads, nor a callback of dl_iterate_phdr. It takes 1 KB of stack more than dwcheck_module_check. Returns
+   DWCHECK_DONE; or DWCHECK_NO_MEMORY, and then some modules may have been left out. */
 uint32_t dwcheck_dl_prepare(void);
 
 /* Makes walks use a section in the format of .eh_frame, of `length` bytes, for code that the loader doesn't know: of
