@@ -105,7 +105,7 @@ static bool have_same_bytes(const dwcheck_module *module, const struct record *o
 
 /* Finds the CIEs that have the same bytes, so that one of them is written, as linkers do in .eh_frame: each object has
    its own, and if a linker has kept one of several functions and all their FDEs, only those with one CIE are exact
-   copies of each other. The bytes may change if somebody writes to the file, so this is found out once. */
+   copies of each other. This is found out once, so that both passes of writing say the same of any bytes. */
 static void find_same(const dwcheck_module *module, struct records *records) {
     enum { MOST = 64 };
     struct record *unlike[MOST]; /* if more differ, the others are written as they come */

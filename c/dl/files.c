@@ -5,6 +5,7 @@
 
 #include <elf.h>
 #include <fcntl.h>
+#include <stdlib.h>
 #include <string.h>
 #include <sys/mman.h>
 #include <sys/stat.h>
@@ -12,62 +13,66 @@
 
 typedef struct dwcheck_dl_bytes bytes;
 
-static bytes map_file(const char *name) {
-    bytes file = {NULL, 0};
-    int fd = open(name, O_RDONLY | O_CLOEXEC | O_NONBLOCK); /* for a FIFO it would wait */
+/* Opens a regular file. Returns -1 if it can't. */
+static int open_file(const char *name) {
     struct stat status;
-    if (fd >= 0 && fstat(fd, &status) == 0 && S_ISREG(status.st_mode) && status.st_size > 0) {
-        void *first = mmap(NULL, (size_t)status.st_size, PROT_READ, MAP_PRIVATE, fd, 0);
-        if (first != MAP_FAILED) file = (bytes){first, (size_t)status.st_size};
-    }
-    if (fd >= 0) close(fd);
-    return file;
+    int file = open(name, O_RDONLY | O_CLOEXEC | O_NONBLOCK); /* for a FIFO it would wait */
+    if (file < 0 || (fstat(file, &status) == 0 && S_ISREG(status.st_mode))) return file;
+    close(file);
+    return -1;
 }
 
-/* Whether `length` bytes from `offset` on are inside. */
-static bool is_inside(bytes all, uint64_t offset, uint64_t length) {
-    return offset <= all.length && length <= all.length - offset;
+/* Reads bytes of a file. A file that isn't mapped may be shortened meanwhile: then there are fewer. */
+static bool reads(int file, uint64_t offset, void *bytes, size_t length) {
+    uint8_t *at = bytes;
+    while (length > 0) {
+        const ssize_t count = pread(file, at, length, (off_t)offset);
+        if (count <= 0) return false;
+        at += count, offset += (size_t)count, length -= (size_t)count;
+    }
+    return true;
 }
 
-/* The section of an ELF file with this name; NULL if the file has no such section, or if the section is
-   compressed. */
-static const ElfW(Shdr) *section_of(bytes file, const char *wanted) {
-    const size_t wanted_size = strlen(wanted) + 1;
-    const ElfW(Ehdr) *header = (const void *)file.first;
-    if (header->e_ident[EI_CLASS] != ELFCLASS64 || header->e_shentsize != sizeof(ElfW(Shdr))) return NULL;
-    uint64_t size = (uint64_t)header->e_shnum * sizeof(ElfW(Shdr));
-    if (header->e_shoff % _Alignof(ElfW(Shdr)) != 0 || !is_inside(file, header->e_shoff, size)) return NULL;
-    if (header->e_shstrndx >= header->e_shnum) return NULL;
-    const ElfW(Shdr) *sections = (const void *)(file.first + header->e_shoff);
-    const ElfW(Shdr) *names = &sections[header->e_shstrndx];
-    if (!is_inside(file, names->sh_offset, names->sh_size)) return NULL;
-    for (size_t i = 0; i < header->e_shnum; i++) {
-        const ElfW(Shdr) *section = &sections[i];
-        if (section->sh_name < names->sh_size && names->sh_size - section->sh_name >= wanted_size
-            && memcmp(file.first + names->sh_offset + section->sh_name, wanted, wanted_size) == 0
-            && section->sh_type != SHT_NOBITS && !(section->sh_flags & SHF_COMPRESSED)
-            && is_inside(file, section->sh_offset, section->sh_size))
-            return section;
+/* Whether the name of a section is the one that is wanted. */
+static bool has_name(int file, const ElfW(Shdr) *section, const ElfW(Shdr) *names, const char *wanted) {
+    enum { MOST = 32 };
+    char name[MOST];
+    const size_t size = strlen(wanted) + 1;
+    return size <= MOST && section->sh_name < names->sh_size && names->sh_size - section->sh_name >= size
+           && reads(file, names->sh_offset + section->sh_name, name, size) && memcmp(name, wanted, size) == 0;
+}
+
+/* Finds the section of an ELF file that has this name, if it isn't compressed. */
+static bool find_section(int file, const char *wanted, ElfW(Shdr) *section) {
+    ElfW(Ehdr) header;
+    ElfW(Shdr) names;
+    if (!reads(file, 0, &header, sizeof header) || header.e_ident[EI_CLASS] != ELFCLASS64) return false;
+    if (header.e_shentsize != sizeof *section || header.e_shstrndx >= header.e_shnum) return false;
+    if (!reads(file, header.e_shoff + header.e_shstrndx * sizeof names, &names, sizeof names)) return false;
+    for (size_t i = 0; i < header.e_shnum; i++) {
+        if (!reads(file, header.e_shoff + i * sizeof *section, section, sizeof *section)) return false;
+        if (section->sh_type != SHT_NOBITS && !(section->sh_flags & SHF_COMPRESSED) && has_name(file, section, &names, wanted))
+            return true;
     }
-    return NULL;
+    return false;
 }
 
 /* Whether memory is as the file is from an offset on. Memory that can't be read isn't. */
-static bool is_same(bytes file, uint64_t offset, uint64_t first, uint64_t length) {
-    enum { PAGE = 4096 };
-    if (!is_inside(file, offset, length)) return false;
+static bool is_same(int file, uint64_t offset, uint64_t first, uint64_t length) {
+    enum { PART = 1024 }; /* of a page, so that it can be read or can't */
+    uint8_t part[PART];
     for (uint64_t at = 0, count; at < length; at += count) {
-        count = PAGE - (first + at) % PAGE;
+        count = PART - (first + at) % PART;
         if (count > length - at) count = length - at;
-        if (dwcheck_dl_is_unreadable(first + at)) return false;
-        if (memcmp(file.first + offset + at, (const void *)(uintptr_t)(first + at), count) != 0) return false;
+        if (dwcheck_dl_is_unreadable(first + at) || !reads(file, offset + at, part, count)) return false;
+        if (memcmp(part, (const void *)(uintptr_t)(first + at), count) != 0) return false;
     }
     return true;
 }
 
 /* Whether the segments of this type that are writable and executable as `flags` say are in memory as they are
    in the file. */
-static bool has_same(bytes file, const struct dl_phdr_info *info, uint32_t type, uint32_t flags) {
+static bool has_same(int file, const struct dl_phdr_info *info, uint32_t type, uint32_t flags) {
     for (size_t i = 0; i < info->dlpi_phnum; i++) {
         const ElfW(Phdr) *segment = &info->dlpi_phdr[i];
         uint64_t first = info->dlpi_addr + segment->p_vaddr, end = dwcheck_dl_end_of_segment(info, first);
@@ -79,7 +84,7 @@ static bool has_same(bytes file, const struct dl_phdr_info *info, uint32_t type,
 }
 
 /* Whether the file has a build id where it is in memory. */
-static bool has_id(bytes file, const struct dl_phdr_info *info, bytes id) {
+static bool has_id(int file, const struct dl_phdr_info *info, bytes id) {
     for (size_t i = 0; i < info->dlpi_phnum; i++) {
         const ElfW(Phdr) *segment = &info->dlpi_phdr[i];
         const uint64_t within = (uintptr_t)id.first - info->dlpi_addr - segment->p_vaddr;
@@ -90,26 +95,45 @@ static bool has_id(bytes file, const struct dl_phdr_info *info, bytes id) {
 }
 
 /* Whether a file is the one that was loaded: its segments and its notes are those in memory. */
-static bool is_loaded(bytes file, const struct dl_phdr_info *info) {
-    const ElfW(Ehdr) *header = (const void *)file.first;
+static bool is_loaded(int file, const struct dl_phdr_info *info) {
+    ElfW(Ehdr) header;
     size_t size = info->dlpi_phnum * sizeof *info->dlpi_phdr;
-    return file.length >= sizeof *header && memcmp(file.first, ELFMAG, SELFMAG) == 0 && header->e_phnum == info->dlpi_phnum
-           && is_inside(file, header->e_phoff, size) && memcmp(file.first + header->e_phoff, info->dlpi_phdr, size) == 0
+    return reads(file, 0, &header, sizeof header) && memcmp(header.e_ident, ELFMAG, SELFMAG) == 0
+           && header.e_phnum == info->dlpi_phnum && is_same(file, header.e_phoff, (uintptr_t)info->dlpi_phdr, size)
            && has_same(file, info, PT_NOTE, 0);
 }
 
-struct dwcheck_dl_bytes dwcheck_dl_map_file(const struct dl_phdr_info *info) {
-    bytes file = {NULL, 0};
-    if (info->dlpi_name[0] == 0) file = map_file(DWCHECK_DL_PROGRAM);
-    else if (strchr(info->dlpi_name, '/')) file = map_file(info->dlpi_name); /* the vDSO has no file, and its name no folder */
-    if (file.length == 0 || is_loaded(file, info)) return file;
-    munmap((void *)file.first, file.length);
-    return (bytes){NULL, 0};
+int dwcheck_dl_open_file(const struct dl_phdr_info *info) {
+    int file = -1;
+    if (info->dlpi_name[0] == 0) file = open_file(DWCHECK_DL_PROGRAM);
+    else if (strchr(info->dlpi_name, '/')) file = open_file(info->dlpi_name); /* the vDSO has no file, and its name no folder */
+    if (file < 0 || is_loaded(file, info)) return file;
+    close(file);
+    return -1;
 }
 
-struct dwcheck_dl_bytes dwcheck_dl_debug_frame_of(bytes file, const struct dl_phdr_info *info, bytes id) {
-    const ElfW(Shdr) *section = section_of(file, ".debug_frame");
-    if (section == NULL || !(id.length != 0 ? has_id(file, info, id) : has_same(file, info, PT_LOAD, PF_X)))
-        return (bytes){NULL, 0};
-    return (bytes){file.first + section->sh_offset, section->sh_size};
+struct dwcheck_dl_bytes dwcheck_dl_map_file(const struct dl_phdr_info *info) {
+    bytes mapped = {NULL, 0};
+    struct stat status;
+    const int file = dwcheck_dl_open_file(info);
+    if (file < 0) return mapped;
+    if (fstat(file, &status) == 0 && status.st_size > 0) {
+        void *first = mmap(NULL, (size_t)status.st_size, PROT_READ, MAP_PRIVATE, file, 0);
+        if (first != MAP_FAILED) mapped = (bytes){first, (size_t)status.st_size};
+    }
+    close(file);
+    return mapped;
+}
+
+uint32_t dwcheck_dl_debug_frame_of(int file, const struct dl_phdr_info *info, bytes id, uint8_t **frame, size_t *length) {
+    ElfW(Shdr) section;
+    struct stat status;
+    if (!find_section(file, ".debug_frame", &section) || section.sh_size == 0) return DWCHECK_NONE;
+    if (!(id.length != 0 ? has_id(file, info, id) : has_same(file, info, PT_LOAD, PF_X))) return DWCHECK_NONE;
+    if (fstat(file, &status) != 0 || section.sh_size > (uint64_t)status.st_size) return DWCHECK_NONE;
+    if ((*frame = malloc(section.sh_size)) == NULL) return DWCHECK_NO_MEMORY;
+    *length = section.sh_size;
+    if (reads(file, section.sh_offset, *frame, *length)) return DWCHECK_DONE;
+    free(*frame);
+    return DWCHECK_NONE;
 }

@@ -12,7 +12,7 @@
 #include <stdatomic.h>
 #include <stdlib.h>
 #include <string.h>
-#include <sys/mman.h>
+#include <unistd.h>
 
 /* A section that was made for a module, which lies after its search table in the same piece of memory. */
 struct made {
@@ -139,10 +139,15 @@ static bool describe(const struct dl_phdr_info *info, struct dwcheck_dl_module *
 
 static uint32_t make_for(const struct dl_phdr_info *info, const struct dwcheck_dl_module *module, struct made **made) {
     const struct dwcheck_dl_bytes id = {module->id, module->layout == 0 ? module->id_length : 0}; /* its build id */
-    const struct dwcheck_dl_bytes file = dwcheck_dl_map_file(info);
-    if (file.length == 0) return DWCHECK_NONE;
-    const uint32_t status = make(made, info, dwcheck_dl_debug_frame_of(file, info, id));
-    munmap((void *)file.first, file.length);
+    uint8_t *frame = NULL;
+    size_t length = 0;
+    const int file = dwcheck_dl_open_file(info);
+    if (file < 0) return DWCHECK_NONE;
+    uint32_t status = dwcheck_dl_debug_frame_of(file, info, id, &frame, &length);
+    close(file);
+    if (status != DWCHECK_DONE) return status;
+    status = make(made, info, (struct dwcheck_dl_bytes){frame, length});
+    free(frame);
     return status;
 }
 

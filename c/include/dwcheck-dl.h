@@ -125,8 +125,6 @@ uint32_t dwcheck_dl_thread(void);
    - Modules of other namespaces than the caller's (dlmopen) aren't prepared. A file is found by its name: not if that is
      relative and the program has changed its folder since, nor if the program was started as an argument of the loader.
      Separate files of debug information (.gnu_debuglink) aren't looked for.
-   - Meanwhile nothing may shorten these files in place, which would raise SIGBUS. A linker or package manager that writes
-     a new file and renames it does no harm.
    - If siglongjmp has left a walk, which keeps its cache, what is replaced later isn't freed any more: neither by this
      call, nor by those that register code.
    It takes locks, also the loader's, and allocates, so no signal handler may call it, nor the child of a fork in a program

@@ -1,5 +1,5 @@
-/* Tests of what dwcheck_dl_prepare has made of a library whose code has been changed in memory: walks use it, also after
-   other calls.
+/* Tests of what dwcheck_dl_prepare has made of a library whose code was changed in memory: walks use it, also after other
+   calls.
    usage: prepared_once LIBRARY [no-id]
    The function call_back(f) of the library calls f, and has rows in .debug_frame alone. With a second argument, the
    library has no build id, so these are used only once the code is that of the file. */
