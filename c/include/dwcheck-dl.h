@@ -120,8 +120,7 @@ uint32_t dwcheck_dl_thread(void);
    doesn't say that a frame is a signal frame. A file is used if it is still the one that was loaded: if its notes, with
    the build id, are those in memory, or without a build id, also its code. Its section is used if it isn't compressed,
    and has no fault; and of the section the FDEs of code that the module has, but for those whose CIE has an
-   augmentation, and those of code 2 GB or more after the module's first. Without these, a module has the rows of
-   .eh_frame alone. Call it again after dlopen of such modules.
+   augmentation. Without these, a module has the rows of .eh_frame alone. Call it again after dlopen of such modules.
    - Modules of other namespaces than the caller's (dlmopen) aren't prepared. A file is found by its name: not if that is
      relative and the program has changed its folder since, nor if the program was started as an argument of the loader.
      Separate files of debug information (.gnu_debuglink) aren't looked for.
