@@ -171,6 +171,31 @@ fn fdes_that_are_refused_and_fdes_that_share_addresses() {
     assert_eq!(without_refused(&all).bytes().len(), bytes.len());
 }
 
+/// An FDE whose address isn't known is left out, and isn't the CIE of another FDE, which is refused.
+#[test]
+fn fdes_whose_address_is_not_known() {
+    let good = cie(b"\0", &[0x0c, 7, 8]);
+    let unresolved = good.len();
+    let mut bytes = [good, fde(unresolved, &[&range(0, 8)[..], &[0; 8]].concat())].concat();
+    let frames = |bytes: &[u8]| {
+        let mut section = section(Name::EhFrame, bytes).into_owned();
+        section.source.unresolved = vec![unresolved as u64 + 8];
+        Frames::of(section).unwrap()
+    };
+    bytes.extend(fde(bytes.len(), &range(0x2000, 8)));
+    let alone = frames(&bytes);
+    assert_eq!((alone.unresolved(), alone.left_out()), (&[unresolved as u64][..], 1));
+    assert_eq!(alone.check().map(|counts| (counts.cies, counts.fdes)), Ok((1, 1)));
+    let of_unresolved = bytes.len();
+    bytes.extend(fde(of_unresolved - unresolved, &range(0x3000, 8)));
+    bytes.extend(fde(bytes.len(), &range(0x4000, 8)));
+    let all = frames(&bytes);
+    let fault = all.check().unwrap_err().fault().unwrap();
+    assert_eq!((fault.kind, fault.offset as usize), (FaultKind::NoSuchCie, of_unresolved + 4));
+    assert_eq!(rest(&all, 0x3000), (None, 2));
+    assert_eq!(rest(&all, 0x4000), (Some(8), 2));
+}
+
 /// What isn't a record ends a section.
 #[test]
 fn bytes_that_are_no_record() {

@@ -175,13 +175,8 @@ g: .cfi_startproc
     }
 }
 
-/// The address of an initial location whose symbol is in another object isn't known.
-#[test]
-fn undefined_symbols() {
-    let folder = Folder::new("objects-undefined");
-    folder.write(
-        "a.s",
-        " .section .eh_frame, \"a\", @progbits
+/// A CIE of `.eh_frame`.
+const CIE: &str = " .section .eh_frame, \"a\", @progbits
 cie: .long cie_end - cie_id
 cie_id: .long 0
  .byte 1
@@ -192,19 +187,26 @@ cie_id: .long 0
  .uleb128 1
  .byte 0x1b, 0x0c, 7, 8
 cie_end:
- .long fde_end - fde_id
-fde_id: .long fde_id - cie
- .long elsewhere - .
- .long 4
- .uleb128 0
-fde_end:
-",
-    );
+";
+
+/// An FDE of that CIE for four addresses from a symbol on. Its program is this byte.
+fn fde(symbol: &str, program: u8) -> String {
+    format!(
+        " .long 18\n1: .long 1b - cie\n .long {} - .\n .long 4\n .uleb128 0\n .byte {}, 0, 0, 0, 0\n",
+        symbol, program
+    )
+}
+
+/// The address of an initial location whose symbol is in another object isn't known.
+#[test]
+fn undefined_symbols() {
+    let folder = Folder::new("objects-undefined");
+    folder.write("a.s", format!("{}{}", CIE, fde("elsewhere", 0)));
     folder.run("as a.s -o a.o");
     let bytes = folder.bytes("a.o");
     let program = Program::read(&bytes).unwrap();
     let section = program.eh_frame().unwrap().unwrap();
-    let record = folder.section("a.o", ".eh_frame").len() as u64 - 17;
+    let record = folder.section("a.o", ".eh_frame").len() as u64 - 22;
     assert_eq!(section.unresolved, [record + 8]);
     let frames = Frames::all(&program).next().unwrap().unwrap();
     assert_eq!(frames.unresolved(), [record]);
@@ -213,6 +215,27 @@ fde_end:
     assert_eq!((ran.status, ran.lines()[0]), (1, expected.as_str()));
     assert!(ran.lines()[1].starts_with(&format!("    at {:#x}: ", record + 8)), "{}", ran.out);
     assert_eq!(ran.lines()[2], "a.o: .eh_frame: 1 of 2 records left out");
+}
+
+/// Beside an FDE whose address isn't known, the first fault is the one with the lowest offset, even if a length can't
+/// be read.
+#[test]
+fn undefined_symbols_and_faults() {
+    let folder = Folder::new("objects-undefined-faults");
+    let all = [CIE, " .text\nf: .skip 4\n .section .eh_frame\n", &fde("f", 0x3f), &fde("elsewhere", 0)].concat();
+    folder.write("a.s", all + " .long 0xfffffff0\n");
+    folder.run("as a.s -o a.o");
+    let names = |words: &str| {
+        let ran = dwcheck_elf(&folder, words);
+        assert_eq!(
+            (ran.status, ran.lines().iter().any(|line| *line == "a.o: .eh_frame: 3 of 4 records left out")),
+            (1, true)
+        );
+        let lines = ran.lines().into_iter().filter(|line| line.starts_with("a.o: .eh_frame+"));
+        lines.map(|line| line.split(": ").nth(2).unwrap().to_string()).collect::<Vec<_>>()
+    };
+    assert_eq!(names("check a.o"), ["UnknownInstruction"]);
+    assert_eq!(names("check --all a.o"), ["UnknownInstruction", "Unresolved", "ReservedLength"]);
 }
 
 /// An empty section with the same name is ignored. Two sections with bytes are refused.

@@ -144,7 +144,8 @@ fn verdict_on_frames(program: &Program<'_>, frames: &Frames<'_>, check: Check) -
     if let Some(fault) = fault {
         let functions = program.functions();
         let terms = Terms::of(frames, &functions);
-        match check.all {
+        // Beside unresolved FDEs the library's first fault needn't be the one with the lowest offset.
+        match check.all || !defects.is_empty() {
             true => defects.extend(every_fault(frames, fault).iter().map(|found| terms.defect(found))),
             false => defects.push(terms.first(fault)),
         }
