@@ -161,12 +161,13 @@ enum { ALTERNATE = 12 << 10, IS_PLAIN = 1 };
 #endif
 static uint8_t alternates[THREADS][ALTERNATE];
 
+/* There are more threads than the library has stacks, so a busy machine may have all of them taken. */
 static void on_signal(int signal, siginfo_t *info, void *context) {
     (void)signal, (void)info;
     void *addresses[FRAMES];
     dwcheck_dl_request request = {.context = context};
     IS(dwcheck_dl_walk(&request, addresses, FRAMES) > 0, 1);
-    if (IS_PLAIN) IS(request.stop, DWCHECK_STOP_RETURN_UNDEFINED);
+    if (IS_PLAIN && request.stop != DWCHECK_DL_STOP_STACK) IS(request.stop, DWCHECK_STOP_RETURN_UNDEFINED);
 }
 
 /* Handlers come on a small stack meanwhile. */
