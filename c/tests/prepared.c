@@ -1,21 +1,11 @@
 /* Tests of dwcheck_dl_prepare with a library that comes and goes, and beside threads that walk.
    usage: prepared LIBRARY
    The function call_back(f) of the library calls f, and has rows in .debug_frame alone. */
-#include "dl.h"
+#include "dl_stop.h"
 
 #include <pthread.h>
 
 enum { ROUNDS = 100, THREADS = 4 };
-
-static uint32_t stop;
-
-static void walk(void) {
-    void *addresses[FRAMES];
-    dwcheck_dl_request request = {.context = NULL};
-    dwcheck_dl_walk(&request, addresses, FRAMES);
-    stop = request.stop;
-    walks++;
-}
 
 /* Loads the library, and walks through its function before and after it is prepared. */
 static void come_and_go(const char *name) {

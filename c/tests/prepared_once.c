@@ -3,21 +3,12 @@
    usage: prepared_once LIBRARY [no-id]
    The function call_back(f) of the library calls f, and has rows in .debug_frame alone. With a second argument, the
    library has no build id, so these are used only once the code is that of the file. */
-#include "dl.h"
+#include "dl_stop.h"
 
 #include <sys/mman.h>
 #include <unistd.h>
 
 static void (*call_back)(void (*f)(void));
-static uint32_t stop;
-
-static void walk(void) {
-    void *addresses[FRAMES];
-    dwcheck_dl_request request = {.context = NULL};
-    dwcheck_dl_walk(&request, addresses, FRAMES);
-    stop = request.stop;
-    walks++;
-}
 
 static void protect(int protection) {
     const uintptr_t size = (uintptr_t)sysconf(_SC_PAGESIZE);
