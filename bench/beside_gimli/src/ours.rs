@@ -9,6 +9,7 @@ unsafe extern "C" {
     fn bench_check(section: Start, n: usize) -> usize;
     fn bench_check_lists(section: Start, n: usize) -> usize;
     fn bench_rows(section: Start, n: usize) -> u64;
+    fn bench_rows_in(section: Start, n: usize) -> u64;
     fn bench_rows_again(section: Start, n: usize) -> u64;
     fn bench_rows_into(section: Start, n: usize) -> u64;
     fn bench_look_up(section: Start, n: usize, addresses: *const u64, m: usize, times: u32) -> u64;
@@ -57,6 +58,11 @@ pub fn check_lists(section: &[u8]) -> usize {
 /// Checks a section, and gets all rows from iterators, a new one for each FDE.
 pub fn rows(section: &[u8]) -> u64 {
     unsafe { bench_rows(section.as_ptr(), section.len()) }
+}
+
+/// Checks a section, and gets all rows from iterators, a new one for each FDE, which run in one context.
+pub fn rows_in(section: &[u8]) -> u64 {
+    unsafe { bench_rows_in(section.as_ptr(), section.len()) }
 }
 
 /// Checks a section, and gets all rows from one iterator, which is reset for each FDE.

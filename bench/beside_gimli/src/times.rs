@@ -59,7 +59,9 @@ fn frame(name: &str, bytes: &[u8]) {
     let (into, rows) = least_of_both(15, || ours::rows_into(bytes), || section.rows());
     line(&format!("{name}: all rows into one place"), into - check, Some(rows));
     let (iterated, rows) = least_of_both(9, || ours::rows(bytes), || section.rows());
-    line(&format!("{name}: all rows by the iterator"), iterated - check, Some(rows));
+    line(&format!("{name}: all rows by iterators with contexts of their own"), iterated - check, Some(rows));
+    let (borrowing, rows) = least_of_both(9, || ours::rows_in(bytes), || section.rows());
+    line(&format!("{name}: all rows by new iterators in one context"), borrowing - check, Some(rows));
     let (again, rows) = least_of_both(9, || ours::rows_again(bytes), || section.rows());
     line(&format!("{name}: all rows by the iterator in one place"), again - check, Some(rows));
     let addresses = section.addresses();

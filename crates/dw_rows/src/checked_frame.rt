@@ -407,7 +407,8 @@ impl<'a> CheckedFrame<'a> {
 
     /// The rows of one of this section's FDEs, in order of address. The iterator runs the FDE's
     /// program again, one row at a time, starting from the stored rules that the CIE's program
-    /// leaves. It allocates no memory.
+    /// leaves. It allocates no memory, but it has 40,000 bytes, which are cleared for each new one:
+    /// `rows_in` and `rows_into` save that.
     #[inline(always)]
     pub fn rows(&self, fde: &FrameDescriptionEntry<'a>) -> Rows<'_, 'a>
         requires { Contains self.now.fdes (fde_of fde.now) }

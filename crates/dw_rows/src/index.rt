@@ -43,11 +43,11 @@ fn covering_some(
 /// How many bytes of a section an FDE must take on average for the stable sort to be used. A check takes
 /// 64 bytes for an FDE, 16 for its index entry, and during this sort 16 more: so at most 2.5 bytes
 /// for a byte of the section.
-const USUAL_FDE: usize = 40;
+const BYTES_FOR_A_BUFFER: usize = 40;
 
 /// Whether a section of `size` bytes with `count` FDEs has FDEs of the usual size.
 fn are_usual(count: usize, size: usize) -> bool {
-    count <= size / USUAL_FDE
+    count <= size / BYTES_FOR_A_BUFFER
 }
 
 /// Sorts index entries by their starts. Linkers write long runs of FDEs in order of address, which the

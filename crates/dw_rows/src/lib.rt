@@ -14,13 +14,15 @@ mod quick_check;
 mod record_checks;
 mod row_cursor;
 mod row_iter;
+mod rows_in;
 
 pub use checked_expressions::CheckedExpressions;
 pub use checked_frame::{CheckedFrame, check_frame, check_records};
-pub use dw_rules::{Abi, CfaRule, MAX_REMEMBERED, RegisterRule, UnwindTableRow};
+pub use dw_rules::{Abi, CfaRule, MAX_REMEMBERED, RegisterRule, UnwindContext, UnwindTableRow};
 pub use few_expressions::MAX_FEW;
 pub use index::IndexEntry;
 pub use lookup::{lend_row, seek_row};
 pub use program_checks::{check_cie, check_cie_program, check_fde, quick_or_full_check};
 pub use quick_check::quick_row_count;
 pub use row_iter::Rows;
+pub use rows_in::RowsIn;

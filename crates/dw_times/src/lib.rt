@@ -18,7 +18,7 @@ use dw_check::{Answer, Checked, check, unwind};
 use dw_eval::{Context, Memory, Outcome, Registers, evaluate};
 use dw_loclists::check_lists;
 use dw_ops::Expression;
-use dw_rows::{CheckedFrame, Rows, UnwindTableRow, check_frame};
+use dw_rows::{CheckedFrame, Rows, UnwindContext, UnwindTableRow, check_frame};
 use dw_stack::{CheckedExpression, Kind, certify, check_expression};
 use std::alloc::Global;
 
@@ -101,6 +101,27 @@ fn iterated_sum(frame: &CheckedFrame<'_>) -> u64 {
 pub extern "C" fn bench_rows(alloc: Global, section: &[u8]) -> u64 {
     match checked(alloc, section) {
         Some(frame) => iterated_sum(&frame),
+        None => 0,
+    }
+}
+
+/// The sum of the end addresses of all rows, with a new iterator for each FDE in one context.
+fn iterated_in_sum(frame: &CheckedFrame<'_>) -> u64 {
+    let mut context = UnwindContext::new();
+    let mut sum = 0u64;
+    for fde in frame.fdes() {
+        for row in frame.rows_in(fde, &mut context) {
+            sum = sum.wrapping_add(row.end_address());
+        }
+    }
+    sum
+}
+
+/// Checks a section, and gets all rows, with a new iterator for each FDE in one context.
+#[unsafe(no_mangle)]
+pub extern "C" fn bench_rows_in(alloc: Global, section: &[u8]) -> u64 {
+    match checked(alloc, section) {
+        Some(frame) => iterated_in_sum(&frame),
         None => 0,
     }
 }
