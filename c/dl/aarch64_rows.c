@@ -8,6 +8,11 @@
 
 enum { FIRST = 19, FP = 29, LR = 30, SP = 31, WORD = 8 };
 
+/* The entries of procedure linkage tables push this many bytes before they jump to the function of glibc that looks a symbol
+   up for the first time, _dl_runtime_resolve. Its rows count from its own first instruction: the return address, which was
+   pushed last, is a word above what they call the CFA. No other row has it there, in the frame of the caller. */
+enum { PUSHED = 16 };
+
 /* What a row leads to: the frame's caller, nothing, since it is the outermost frame, or a caller that needs a cursor. */
 enum { TO_CALLER, TO_END, TO_OTHER };
 
@@ -81,6 +86,11 @@ void dwcheck_dl_rows_forget(dwcheck_dl_rows *rows, uint32_t slot) {
 
 /* ---- walking by them */
 
+/* The stack pointer of a frame's caller. */
+static uint64_t stack_of_caller(const struct dwcheck_dl_row *row, uint64_t cfa) {
+    return row->saved[LR - FIRST] == WORD ? cfa + PUSHED : cfa;
+}
+
 /* Reads the word that is saved at an address. Returns whether the stack has it. */
 static bool read_word(const dwcheck_block *stack, uint64_t address, uint64_t *word) {
     const uint64_t at = address - stack->base;
@@ -111,7 +121,7 @@ static bool go_to_caller(const struct dwcheck_dl_row *row, const dwcheck_block *
     dwcheck_dl_place caller = *place;
     if (!has_return_address(row, place) || !restore(row, stack, cfa, caller.x19_to_x30)) return false;
     dwcheck_dl_continue_at(&caller, dwcheck_dl_unsigned(caller.x19_to_x30[LR - FIRST]));
-    caller.stack_pointer = cfa;
+    caller.stack_pointer = stack_of_caller(row, cfa);
     *place = caller;
     return true;
 }
@@ -148,6 +158,24 @@ uint64_t dwcheck_dl_end_of_saved(const dwcheck_dl_rows *rows, uint64_t confirmed
     return highest == INT16_MIN ? frame->cfa : frame->cfa + (uint64_t)(int64_t)highest + WORD;
 }
 
+static bool saves_above_cfa(const dwcheck_rule *rule) {
+    return rule->reg == LR && rule->kind == DWCHECK_RULE_OFFSET && rule->offset == WORD;
+}
+
+/* The row is looked up only if the word above the CFA is the return address, which is rare. */
+void dwcheck_dl_pass_pushed(const dwcheck_module *module, const dwcheck_header *header, uint64_t address,
+                            const dwcheck_block *stack, dwcheck_cursor *cursor) {
+    dwcheck_rule rules[DWCHECK_MAX_RULES];
+    dwcheck_row row;
+    dwcheck_fault fault;
+    uint64_t word;
+    uint32_t is_signal_frame;
+    if (!read_word(stack, cursor->contents[SP] + WORD, &word) || dwcheck_dl_unsigned(word) != dwcheck_dl_unsigned(cursor->address)) return;
+    if (dwcheck_row_in(module, header, address, &row, rules, DWCHECK_MAX_RULES, &is_signal_frame, &fault) != DWCHECK_DONE) return;
+    for (uint32_t i = 0; i < row.count; i++)
+        if (saves_above_cfa(&rules[i])) cursor->contents[SP] += PUSHED;
+}
+
 /* ---- addresses alone */
 
 /* Goes on to the caller of a frame, of which only the stack pointer and x29 are known. Returns why it can't; LIMIT if it
@@ -163,7 +191,7 @@ static uint32_t pass_frame(const struct dwcheck_dl_row *row, const dwcheck_block
     if (!read_word(stack, cfa + (uint64_t)(int64_t)saved_link, &link)) return DWCHECK_STOP_OTHER;
     if (saved_frame != 0) place->frame_pointer = cfa + (uint64_t)(int64_t)saved_frame, place->is_saved = 1;
     place->address = place->key = link & ~bits;
-    place->stack_pointer = cfa;
+    place->stack_pointer = stack_of_caller(row, cfa);
     return DWCHECK_STOP_LIMIT;
 }
 

@@ -32,6 +32,11 @@ static inline uint64_t dwcheck_dl_end_of_saved(const dwcheck_dl_rows *rows, uint
     return (void)rows, (void)confirmed, frame->cfa;
 }
 
+static inline void dwcheck_dl_pass_pushed(const dwcheck_module *module, const dwcheck_header *header, uint64_t address,
+                                          const dwcheck_block *stack, dwcheck_cursor *cursor) {
+    (void)module, (void)header, (void)address, (void)stack, (void)cursor;
+}
+
 #else
 
 /* A row: where the registers x19 to x30 are saved, as offsets from the CFA, which is a register plus an offset. */
@@ -64,6 +69,11 @@ DWCHECK_DL_HIDDEN void dwcheck_dl_rows_walk_frames(dwcheck_dl_rows *rows, uint64
 /* The end of the highest word that the row of a frame, which a walk has written, names: the one that memory must have. */
 DWCHECK_DL_HIDDEN uint64_t dwcheck_dl_end_of_saved(const dwcheck_dl_rows *rows, uint64_t confirmed,
                                                    const dwcheck_dl_frame *frame);
+
+/* Moves a cursor, which the row of the call at an address has led to its caller, past what was pushed before the row's
+   function began: where glibc looks a symbol up for the first time. */
+DWCHECK_DL_HIDDEN void dwcheck_dl_pass_pushed(const dwcheck_module *module, const dwcheck_header *header, uint64_t address,
+                                              const dwcheck_block *stack, dwcheck_cursor *cursor);
 
 #endif
 

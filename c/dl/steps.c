@@ -57,7 +57,10 @@ static uint32_t step_by(const struct step *step, const struct dwcheck_dl_section
     const dwcheck_header header = dwcheck_dl_as_header(section);
     const dwcheck_state state = dwcheck_dl_state_of(step->stack);
     const uint32_t stage = step->cursor->stage;
+    const uint64_t address = step->cursor->address - (stage == DWCHECK_CURSOR_CALLER);
     const uint32_t status = dwcheck_step_in(&module, &header, step->cursor, &state, step->frame, &fault);
+    if (status == DWCHECK_DONE && step->cursor->stage == DWCHECK_CURSOR_CALLER)
+        dwcheck_dl_pass_pushed(&module, &header, address, step->stack, step->cursor);
     if (status != DWCHECK_DONE || step->cursor->stage != DWCHECK_STOP_NOT_COVERED + 1) return status;
     step->cursor->stage = stage;
     return DWCHECK_NONE;
