@@ -143,7 +143,7 @@ void dwcheck_dl_rows_walk_frames(dwcheck_dl_rows *rows, uint64_t confirmed, dwch
         *stop = reason_before(row, place);
         if (*stop != DWCHECK_STOP_LIMIT) break;
         const uint64_t cfa = cfa_of(row, place);
-        frames[found++] = (dwcheck_dl_frame){*place, cfa};
+        frames[found++] = (dwcheck_dl_frame){*place, stack_of_caller(row, cfa)};
         if (row->kind == TO_END) *stop = DWCHECK_STOP_RETURN_UNDEFINED;
         else if (!go_to_caller(row, stack, place, cfa)) *stop = DWCHECK_STOP_RETURN_UNREADABLE;
     }
@@ -155,7 +155,7 @@ uint64_t dwcheck_dl_end_of_saved(const dwcheck_dl_rows *rows, uint64_t confirmed
     int highest = INT16_MIN;
     for (int i = 0; row != NULL && i <= LR - FIRST; i++)
         if (row->saved[i] != 0 && row->saved[i] > highest) highest = row->saved[i];
-    return highest == INT16_MIN ? frame->cfa : frame->cfa + (uint64_t)(int64_t)highest + WORD;
+    return highest == INT16_MIN ? frame->cfa : cfa_of(row, &frame->place) + (uint64_t)(int64_t)highest + WORD;
 }
 
 static bool saves_above_cfa(const dwcheck_rule *rule) {
@@ -164,7 +164,7 @@ static bool saves_above_cfa(const dwcheck_rule *rule) {
 
 /* The row is looked up only if the word above the CFA is the return address, which is rare. */
 void dwcheck_dl_pass_pushed(const dwcheck_module *module, const dwcheck_header *header, uint64_t address,
-                            const dwcheck_block *stack, dwcheck_cursor *cursor) {
+                            const dwcheck_block *stack, dwcheck_cursor *cursor, dwcheck_frame *frame) {
     dwcheck_rule rules[DWCHECK_MAX_RULES];
     dwcheck_row row;
     dwcheck_fault fault;
@@ -173,7 +173,7 @@ void dwcheck_dl_pass_pushed(const dwcheck_module *module, const dwcheck_header *
     if (!read_word(stack, cursor->contents[SP] + WORD, &word) || dwcheck_dl_unsigned(word) != dwcheck_dl_unsigned(cursor->address)) return;
     if (dwcheck_row_in(module, header, address, &row, rules, DWCHECK_MAX_RULES, &is_signal_frame, &fault) != DWCHECK_DONE) return;
     for (uint32_t i = 0; i < row.count; i++)
-        if (saves_above_cfa(&rules[i])) cursor->contents[SP] += PUSHED;
+        if (saves_above_cfa(&rules[i])) frame->cfa.value = cursor->contents[SP] += PUSHED;
 }
 
 /* ---- addresses alone */

@@ -33,8 +33,8 @@ static inline uint64_t dwcheck_dl_end_of_saved(const dwcheck_dl_rows *rows, uint
 }
 
 static inline void dwcheck_dl_pass_pushed(const dwcheck_module *module, const dwcheck_header *header, uint64_t address,
-                                          const dwcheck_block *stack, dwcheck_cursor *cursor) {
-    (void)module, (void)header, (void)address, (void)stack, (void)cursor;
+                                          const dwcheck_block *stack, dwcheck_cursor *cursor, dwcheck_frame *frame) {
+    (void)module, (void)header, (void)address, (void)stack, (void)cursor, (void)frame;
 }
 
 #else
@@ -70,10 +70,10 @@ DWCHECK_DL_HIDDEN void dwcheck_dl_rows_walk_frames(dwcheck_dl_rows *rows, uint64
 DWCHECK_DL_HIDDEN uint64_t dwcheck_dl_end_of_saved(const dwcheck_dl_rows *rows, uint64_t confirmed,
                                                    const dwcheck_dl_frame *frame);
 
-/* Moves a cursor, which the row of the call at an address has led to its caller, past what was pushed before the row's
-   function began: where glibc looks a symbol up for the first time. */
+/* Moves a cursor, which the row of a frame's address has led to its caller, and the frame's CFA past what was pushed before
+   the frame's function began: where glibc looks a symbol up for the first time. */
 DWCHECK_DL_HIDDEN void dwcheck_dl_pass_pushed(const dwcheck_module *module, const dwcheck_header *header, uint64_t address,
-                                              const dwcheck_block *stack, dwcheck_cursor *cursor);
+                                              const dwcheck_block *stack, dwcheck_cursor *cursor, dwcheck_frame *frame);
 
 #endif
 

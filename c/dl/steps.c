@@ -60,7 +60,7 @@ static uint32_t step_by(const struct step *step, const struct dwcheck_dl_section
     const uint64_t address = step->cursor->address - (stage == DWCHECK_CURSOR_CALLER);
     const uint32_t status = dwcheck_step_in(&module, &header, step->cursor, &state, step->frame, &fault);
     if (status == DWCHECK_DONE && step->cursor->stage == DWCHECK_CURSOR_CALLER)
-        dwcheck_dl_pass_pushed(&module, &header, address, step->stack, step->cursor);
+        dwcheck_dl_pass_pushed(&module, &header, address, step->stack, step->cursor, step->frame);
     if (status != DWCHECK_DONE || step->cursor->stage != DWCHECK_STOP_NOT_COVERED + 1) return status;
     step->cursor->stage = stage;
     return DWCHECK_NONE;

@@ -128,6 +128,10 @@ own_rows() { # builds the tests of walks that interrupt the library, and runs th
         "$out/own_rows"
 }
 
+first_call() {
+    cc -O2 -fPIC -shared "$top/c/tests/chosen.c" -o "$out/chosen.so" && dl dl_first_call "$out/chosen.so" -Wl,-z,lazy
+}
+
 build_called() { # FLAG..: a library whose only function calls back
     printf 'void call_back(void (*f)(void)); void call_back(void (*f)(void)) { f(); __asm__ volatile(""); }\n' |
         cc -O2 -fPIC -shared "$@" -x c - -o "$out/called.so"
@@ -417,6 +421,7 @@ test_of "the same with ASan and UBSan" dl_modules_checked -fsanitize=address,und
 test_of "a library with rows in .debug_frame that comes and goes, with TSan" prepared -fsanitize=thread
 test_of "the same with ASan and UBSan" prepared -fsanitize=address,undefined -fno-sanitize-recover=all
 test_of "walks from contexts of any registers end" dl dl_contexts
+test_of "walks from where a symbol is looked up for the first time reach the start" first_call
 test_of "walks that interrupt walks, or come after walks that were left" dl dl_left
 test_of "the handler of docs/OWN_STACKS.md prints gdb's stack" handler_of_page
 test_of "stacks over the shared library" shared

@@ -79,6 +79,11 @@ have_rows() {
     [ "$functions" -gt 100 ] && [ "$rows" -ge "$functions" ]
 }
 
+first_call() { # FLAG..
+    aarch64-linux-gnu-gcc -O2 -fPIC -shared "$@" "$top/c/tests/chosen.c" -o "$out/chosen.so" &&
+        c_test dl_first_call "$@" "$out/chosen.so" -Wl,-z,lazy
+}
+
 shadow() { # a chain of calls whose return addresses are also on a shadow call stack
     clang-16 --target=aarch64-linux-gnu -isystem /usr/aarch64-linux-gnu/include -std=gnu11 $strict -O2 -g -fsanitize=shadow-call-stack \
         -ffixed-x18 -fasynchronous-unwind-tables -c "$top/c/tests/dl_shadow.c" -o "$out/dl_shadow.o" &&
@@ -236,6 +241,7 @@ test_beside "arm64: stacks with return addresses signed by the key B" in_both dl
 test_beside "arm64: a stack with a shadow call stack" shadow
 test_beside "arm64: walks from wherever a timer interrupts reach the start" c_test_with 1500 dl_interrupted
 test_beside "arm64: walks from wherever a timer interrupts, with signed return addresses" c_test_with 1500 dl_interrupted -mbranch-protection=standard
+test_beside "arm64: walks from where a symbol is looked up for the first time reach the start" first_call
 test_beside "arm64: walks from contexts of any registers end" c_test dl_contexts
 test_beside "arm64: stacks are glibc's, while libraries come and go" modules
 test_beside "arm64: stacks while libraries come and go, with signed return addresses" modules -mbranch-protection=standard

@@ -3,6 +3,7 @@ pub mod NoCopies
 pub mod WholeSections
 pub mod SignalsRead
 pub mod SignalAddresses
+pub mod SignalCies
 pub mod SplitSteps
 pub mod LeftOut
 pub mod KeptOnes

@@ -20,7 +20,7 @@ ghost use Rattle.dw_eh_rows.specs.Signals.{signal_frames as frames_of};
 ghost use Rattle.dw_eh_rows.specs.Splitting.{parts_of, with_fault, with_item, with_record};
 
 use crate::check::check_eh_frame;
-use crate::signals::{SignalRange, cie_after, push_signal_frame, signal_frames};
+use crate::signals::{SignalRange, cie_after, push_signal_frame, signal_frames_of};
 use dw_bytes::{Fault, FaultKind, OUT_OF_MEMORY, Target};
 use dw_eh_frame::{Bases, EhCie, EhFde, EhRecord, eh_item_after, without_copies};
 use dw_frame::{CommonInformationEntry, FrameDescriptionEntry};
@@ -324,10 +324,7 @@ pub fn check_eh_frame_leaving_out<'a>(
 {
     match check_eh_frame(alloc, section, target, bases, is_aarch64) {
         Ok(frame) => {
-            // The section can be read, so only memory may lack.
-            let Ok(signals) = signal_frames(alloc, section, target, bases, is_aarch64) else {
-                return Err(OUT_OF_MEMORY);
-            };
+            let signals = signal_frames_of(alloc, &frame, section, target, bases, is_aarch64)?;
             Ok(KeptRecords {
                 frame,
                 signals,

@@ -11,10 +11,10 @@ use crate::address_range::AddressRange;
 use crate::process::Process;
 use crate::refusal::Refusal;
 use crate::shared_marks::FrameMarks;
-use dw_bytes::{Fault, OUT_OF_MEMORY, Target};
+use dw_bytes::{Fault, Target};
 use dw_eh_frame::Bases;
 use dw_eh_rows::{
-    KeptRecords, SignalRange, check_eh_frame, check_eh_frame_leaving_out, signal_frames,
+    KeptRecords, SignalRange, check_eh_frame, check_eh_frame_leaving_out, signal_frames_of,
 };
 use dw_rows::CheckedFrame;
 use dw_signed_rows::SignedRanges;
@@ -84,10 +84,7 @@ pub(crate) fn marked_frame<'a>(
         return Ok(MarkedFrame { frame, marks });
     }
     let frame = check_eh_frame(alloc, bytes, target, bases, is_aarch64)?;
-    // The section can be read, so only memory may lack.
-    let Ok(signals) = signal_frames(alloc, bytes, target, bases, is_aarch64) else {
-        return Err(OUT_OF_MEMORY);
-    };
+    let signals = signal_frames_of(alloc, &frame, bytes, target, bases, is_aarch64)?;
     let marks = marks_with(alloc, &frame, signals, is_aarch64)?;
     Ok(MarkedFrame { frame, marks })
 }
