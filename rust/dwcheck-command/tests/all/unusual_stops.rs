@@ -281,3 +281,34 @@ fn a_handler_of_aarch64() {
     assert!(shown[handler + 3].contains(" calls+") && shown[handler + 4].contains(" main+"), "{}", ran.out);
     assert_eq!(ran.out.matches(" guess: ").count(), 1, "{}", ran.out);
 }
+
+/// What an entry of a procedure linkage table pushes, and rows like those of glibc's `_dl_runtime_resolve`, to which it
+/// jumps: they count from that function's first instruction.
+const FIRST_CALL: &str = r#"
+__asm__(".text\n.balign 4\nfirst_call: stp x16, x30, [sp, #-16]!\nb resolve\n.type resolve, %function\n"
+        "resolve: .cfi_startproc\n.cfi_rel_offset 30, 8\nsub sp, sp, #208\n.cfi_adjust_cfa_offset 208\nbl f\n"
+        "add sp, sp, #208\n.cfi_adjust_cfa_offset -208\nldp x16, x30, [sp], #16\nret\n.cfi_endproc\n"
+        ".size resolve, . - resolve");
+int first_call(void);
+__attribute__((noipa)) int f(void) { return *(volatile int *)16 + 1; }
+__attribute__((noipa)) static int calls(int n) { volatile int kept = n; return first_call() + kept; }
+int main(int n) { return calls(n) + 1; }
+"#;
+
+/// The caller's stack pointer is above what was pushed, though the rows say another one.
+#[test]
+fn a_first_look_up_of_a_symbol_on_aarch64() {
+    let folder = Folder::new("edge-first-call");
+    if !["aarch64-linux-gnu-gcc", "qemu-aarch64"].iter().all(|tool| has(tool)) {
+        return;
+    }
+    folder.write("a.c", FIRST_CALL);
+    folder.run("aarch64-linux-gnu-gcc -O1 -static a.c -o program");
+    folder.run("ulimit -c unlimited; qemu-aarch64 ./program 2> /dev/null || mv qemu_program_*.core core");
+    let ran = dwcheck_elf(&folder, "stack --no-source program core");
+    let shown = frames(&ran.out);
+    for (line, name) in shown.iter().zip([" f+", " resolve+", " calls+", " main+"]) {
+        assert!(line.contains(name), "{}", ran.out);
+    }
+    assert!(shown.len() > 5 && !ran.out.contains(" guess: "), "{}", ran.out);
+}

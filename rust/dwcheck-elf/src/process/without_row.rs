@@ -381,7 +381,8 @@ impl<V: View> Guesser<'_, V> {
         u64::from(self.view.target().address_size.bytes())
     }
 
-    fn word(&self, address: u64) -> Option<u64> {
+    /// The word at an address.
+    pub fn word(&self, address: u64) -> Option<u64> {
         let mut bytes = [0; 8];
         let word = bytes.get_mut(..usize::from(self.view.target().address_size.bytes()))?;
         (self.view.read(address, word) == word.len()).then(|| self.view.target().number(word))

@@ -3,7 +3,7 @@
 use super::tables::Found;
 use crate::cfi::frames::{FrameSection, Name};
 use crate::elf::program::Program;
-use dwcheck::{Answer, Cursor, EhFrameInPlace, State, Stop};
+use dwcheck::{Answer, Cursor, EhFrameInPlace, Row, State, Stop};
 use std::borrow::Cow;
 
 /// The first number of the registers that have no place in a cursor.
@@ -55,8 +55,13 @@ impl<'a> InPlace<'a> {
         Some(Found { cfa, return_address, registers, is_signal_frame, is_signal_return: is_signal_frame })
     }
 
+    /// The row of an address, whatever the number of look-ups that are left.
+    pub fn row(&self, address: u64) -> Option<Row> {
+        self.section.row(address).ok()?
+    }
+
     /// Whether a row is found for an address, and a look-up is left.
     pub fn covers(&self, address: u64) -> bool {
-        self.left > 0 && matches!(self.section.row(address), Ok(Some(_)))
+        self.left > 0 && self.row(address).is_some()
     }
 }

@@ -7,7 +7,7 @@ use crate::cfi::section_table::{add_fde, SectionTable};
 use crate::elf::program::Program;
 use crate::process::core_file::{Image, Module};
 use crate::process::without_row::address_of_sigpanic;
-use dwcheck::{Answer, Error, Process, Registers, State};
+use dwcheck::{Answer, Error, Process, Registers, Rule, State};
 use dwcheck_types::target::Target;
 use std::collections::{HashMap, HashSet};
 use std::ops::Range;
@@ -155,6 +155,15 @@ impl<'a> Tables<'a> {
     pub fn caller_at_begin(&mut self, address: u64, state: &State<'_>) -> Result<Option<Found>, Error> {
         let caller = self.caller_by_table(address, state)?;
         Ok(caller.filter(|_| self.compiled_at(address).map_or(false, |compiled| compiled.begin == address)))
+    }
+
+    /// Whether the row by which a caller was found for an address saves a register at this offset from the CFA.
+    pub fn saves(&mut self, address: u64, register: u16, offset: i64) -> bool {
+        let row = match self.compiled_at(address) {
+            Some(_) => self.process.row(address),
+            None => self.in_place_at(address).and_then(|(in_place, linked)| in_place.row(linked)),
+        };
+        row.map_or(false, |row| row.rules.contains(&(register, Rule::Offset(offset))))
     }
 
     /// Whether an FDE that can be used covers an address.

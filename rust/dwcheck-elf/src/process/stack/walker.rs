@@ -71,7 +71,8 @@ impl Walker<'_, '_> {
             (frame.is_after_call, frame.is_signal_frame) = (false, true);
             return Ok(self.by_guess(frame, guess));
         }
-        if let Some(found) = found {
+        if let Some(mut found) = found {
+            self.pass_pushed(frame.looked_up(), &mut found);
             return Ok(self.by_row(frame, found));
         }
         if let Some(found) = self.stacks.symbol_caller(frame, registers) {
@@ -92,6 +93,25 @@ impl Walker<'_, '_> {
         };
         let guess = guess.or_else(|| if self.options.scans { guesser.by_scan() } else { None });
         Ok(self.by_guess(frame, guess))
+    }
+
+    /// Moves a caller on aarch64 past what an entry of a procedure linkage table has pushed, where glibc looks a symbol up
+    /// for the first time. The rows of its function `_dl_runtime_resolve` count from its own first instruction: the return
+    /// address is a word above what they call the CFA. No other row has it there, in the frame of the caller.
+    fn pass_pushed(&self, address: u64, found: &mut Found) {
+        const PUSHED: u64 = 16;
+        const WORD: u64 = 8;
+        let abi = self.stacks.core.abi();
+        let guesser = Guesser { view: self.stacks, registers: &found.registers };
+        let above = found.cfa.and_then(|cfa| cfa.checked_add(WORD)).and_then(|place| guesser.word(place));
+        let is_there = |word: u64| matches!(found.return_address, Answer::Value(held) if (held ^ word) & !self.signed_bits == 0);
+        // The row is looked up only if the word is there, which is rare.
+        if let (Some(link), Some(cfa), true) = (abi.link_register, found.cfa, above.map_or(false, is_there)) {
+            if self.stacks.tables.borrow_mut().saves(address, link, WORD as i64) {
+                found.cfa = cfa.checked_add(PUSHED);
+                found.registers.set(abi.stack_pointer, cfa.wrapping_add(PUSHED));
+            }
+        }
     }
 
     fn by_row(&mut self, frame: &mut Frame, found: Found) -> Caller {
