@@ -102,15 +102,18 @@ impl Walker<'_, '_> {
         const PUSHED: u64 = 16;
         const WORD: u64 = 8;
         let abi = self.stacks.core.abi();
+        let (link, cfa) = match (abi.link_register, found.cfa) {
+            (Some(link), Some(cfa)) => (link, cfa),
+            _ => return,
+        };
+        let unsigned = |word: u64| word & !self.signed_bits;
         let guesser = Guesser { view: self.stacks, registers: &found.registers };
-        let above = found.cfa.and_then(|cfa| cfa.checked_add(WORD)).and_then(|place| guesser.word(place));
-        let is_there = |word: u64| matches!(found.return_address, Answer::Value(held) if (held ^ word) & !self.signed_bits == 0);
+        let above = guesser.word(cfa.wrapping_add(WORD)).map(unsigned);
         // The row is looked up only if the word is there, which is rare.
-        if let (Some(link), Some(cfa), true) = (abi.link_register, found.cfa, above.map_or(false, is_there)) {
-            if self.stacks.tables.borrow_mut().saves(address, link, WORD as i64) {
-                found.cfa = cfa.checked_add(PUSHED);
-                found.registers.set(abi.stack_pointer, cfa.wrapping_add(PUSHED));
-            }
+        let is_there = above.is_some() && above == found.return_address.value().map(unsigned);
+        if is_there && self.stacks.tables.borrow_mut().saves(address, link, WORD as i64) {
+            found.cfa = Some(cfa.wrapping_add(PUSHED));
+            found.registers.set(abi.stack_pointer, cfa.wrapping_add(PUSHED));
         }
     }
 
