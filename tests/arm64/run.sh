@@ -142,6 +142,16 @@ rows() { # ROOT [--signed]: rows of its libraries beside readelf's
             $emulator "$root" "$out/rows"
 }
 
+# Where return addresses of frames are signed, beside gdb. The rows are read on this machine, as any other data. The program
+# isn't position-independent, since qemu writes no code to a core file, and so not the headers by which gdb finds where such
+# a program lies. It has no debug information, by which gdb would show inlined calls as frames.
+signed_frames() {
+    aarch64-linux-gnu-gcc -std=gnu11 $strict -O1 -no-pie -mbranch-protection=standard -fno-optimize-sibling-calls -shared-libgcc \
+        "$top/tests/arm64/signed_frames.c" -o "$out/signed_frames" -pthread &&
+        cc -std=gnu11 -D_GNU_SOURCE $strict -O2 "$top/tests/arm64/rows.c" "$top/build/libdwcheck.a" -o "$out/rows" &&
+        "$top/tests/arm64/signed_frames.py" "$out/signed_frames" "$root" "$newer" -- "$out/rows"
+}
+
 names_in() { # LIBRARY..: the names that they export
     nm -D --defined-only "$@" | awk 'NF == 3 { print $3 }' | sort -u
 }
@@ -220,6 +230,7 @@ test_beside "arm64: dwcheck-elf checks programs" elf_program
 test_beside "arm64: the cases of the program dwcheck" program
 test_beside "arm64: rows of Debian 13's libraries, which sign return addresses, are readelf's" rows "$newer" --signed
 test_beside "arm64: rows of Debian 12's libraries are readelf's" rows "$root"
+test_beside "arm64: the signed state of frames is gdb's" signed_frames
 test_beside "arm64: libunwind's calls bear accessors that fail, lie, step and leave" unwind_remote unwind_remote_input
 test_beside "arm64: libunwind's calls answer cursors and contexts of any bytes" unwind unwind_input
 test_beside "arm64: frames by libunwind's calls are those of libunwind" unwind unwind
