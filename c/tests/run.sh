@@ -129,7 +129,7 @@ own_rows() { # builds the tests of walks that interrupt the library, and runs th
 }
 
 first_call() {
-    cc -O2 -fPIC -shared "$top/c/tests/chosen.c" -o "$out/chosen.so" && dl dl_first_call "$out/chosen.so" -Wl,-z,lazy
+    cc -O2 -fPIC -shared "$top/c/tests/chosen.c" -o "$out/chosen.so" && dl dl_first_call -Wl,-z,lazy,--no-as-needed "$out/chosen.so"
 }
 
 build_called() { # FLAG..: a library whose only function calls back

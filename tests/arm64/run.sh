@@ -81,7 +81,7 @@ have_rows() {
 
 first_call() { # FLAG..
     aarch64-linux-gnu-gcc -O2 -fPIC -shared "$@" "$top/c/tests/chosen.c" -o "$out/chosen.so" &&
-        c_test dl_first_call "$@" "$out/chosen.so" -Wl,-z,lazy
+        c_test dl_first_call "$@" -Wl,-z,lazy,--no-as-needed "$out/chosen.so"
 }
 
 shadow() { # a chain of calls whose return addresses are also on a shadow call stack
