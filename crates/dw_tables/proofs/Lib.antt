@@ -6,3 +6,4 @@ pub mod TableEntries
 pub mod RuleSets
 pub mod NumberedPrograms
 pub mod NumberedStates
+pub mod LastRows

@@ -56,6 +56,7 @@ impl GrowingTable {
 
     /// Appends an entry without rules at `end`: no row covers the addresses from there on. If the
     /// table has no entries, none is appended.
+    #[inline(always)]
     fn close(&mut self) -> Result<(), Unmade>
         ensures closed { IfOk result (λ _. IsClosedAt self.old.end self.old.entries
             self.old.numbers.sets self.new.entries self.new.numbers.sets) }
@@ -80,6 +81,7 @@ impl GrowingTable {
 
     /// Prepares for a row that begins at `start`. If the last row ends before that, the gap gets an
     /// entry without rules.
+    #[inline(always)]
     fn begin_at(&mut self, start: u64) -> Result<(), Unmade>
         ensures begun { IfOk result (λ _. IsBegunAt self.old.end start self.old.entries
             self.old.numbers.sets self.new.entries self.new.numbers.sets) }
@@ -181,8 +183,8 @@ fn fill_all(alloc: Global, frame: &CheckedFrame<'_>, room: usize) -> Result<Grow
     let fdes = frame.fdes();
     let index = frame.index();
     for entry in index {
-        let fde = fdes[entry.place];
-        fill(frame, &fde, &mut table, &mut last, &mut near, &mut spare)?;
+        let fde = &fdes[entry.place];
+        fill(frame, fde, &mut table, &mut last, &mut near, &mut spare)?;
     }
     table.close()?;
     table.entries.finish(alloc)?;

@@ -312,6 +312,7 @@ impl TableEntries {
     }
 
     /// How many entries there are.
+    #[inline(always)]
     pub fn count(&self) -> usize
         ensures { result ≡ length self.now }
     {
