@@ -68,8 +68,22 @@ fn block_of(shift: u32, offset: u32) -> usize
     (u64::from(offset) >> shift) as usize
 }
 
+/// Makes each element the greatest of those before it, or zero if they are all zero.
+fn greatest_before(counts: &mut Vec<u32>)
+    ensures { length counts.new.items ≡ length counts.old.items }
+{
+    let mut below = 0;
+    for place in 0..counts.len() {
+        let count = counts[place];
+        counts[place] = below;
+        below = below.max(count);
+    }
+}
+
 /// Makes the blocks. `offsets` are the distances of the starts from the base, in ascending order.
-/// There are at most two more counts than offsets, and usually far fewer.
+/// There are at most two more counts than offsets, and usually far fewer. At first each block gets
+/// the count of starts up to its end, or zero if it has no starts. No branch depends on where a block
+/// ends, since such a branch would often be mispredicted.
 fn blocks_of(alloc: Global, offsets: &[u32]) -> Result<Blocks, AllocError>
     ensures { IfOk result (λ blocks. length blocks.counts.items ≤ length offsets.now + 2) }
 {
@@ -77,23 +91,23 @@ fn blocks_of(alloc: Global, offsets: &[u32]) -> Result<Blocks, AllocError>
         Some(last) => *last,
         None => 0,
     };
-    let limit = offsets.len() / USUAL_BLOCK;
-    let shift = block_shift(u64::from(last), limit as u64);
-    let mut counts = Vec::with_capacity(alloc, limit + 2)?;
-    for (place, offset) in offsets.iter().enumerate() {
-        let block = block_of(shift, *offset);
-        if counts.len() <= block && block <= limit {
-            let Ok(count) = u32::try_from(place) else {
-                return Err(AllocError);
-            };
-            while counts.len() <= block {
-                counts.push(count)?;
-            }
-        }
-    }
     let Ok(all) = u32::try_from(offsets.len()) else {
         return Err(AllocError);
     };
+    let limit = offsets.len() / USUAL_BLOCK;
+    let shift = block_shift(u64::from(last), limit as u64);
+    let mut counts = Vec::with_capacity(alloc, limit + 2)?;
+    for _ in 0..limit + 1 {
+        counts.push(0)?;
+    }
+    let mut count = 0;
+    for offset in offsets {
+        count += 1;
+        if let Some(element) = counts.get_mut(block_of(shift, *offset)) {
+            *element = count;
+        }
+    }
+    greatest_before(&mut counts);
     counts.push(all)?;
     Ok(Blocks { shift, counts })
 }
