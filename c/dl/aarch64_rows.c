@@ -10,7 +10,7 @@ enum { FIRST = 19, FP = 29, LR = 30, SP = 31, WORD = 8 };
 
 /* The entries of procedure linkage tables push this many bytes before they jump to the function of glibc that looks a symbol
    up for the first time, _dl_runtime_resolve. Its rows count from its own first instruction: the return address, which was
-   pushed last, is a word above what they call the CFA. No other row has it there, in the frame of the caller. */
+   pushed last, is a word above what they call the CFA. No other row that was seen has it there, in the frame of the caller. */
 enum { PUSHED = 16 };
 
 /* What a row leads to: the frame's caller, nothing, since it is the outermost frame, or a caller that needs a cursor. */

@@ -97,7 +97,7 @@ impl Walker<'_, '_> {
 
     /// Moves a caller on aarch64 past what an entry of a procedure linkage table has pushed, where glibc looks a symbol up
     /// for the first time. The rows of its function `_dl_runtime_resolve` count from its own first instruction: the return
-    /// address is a word above what they call the CFA. No other row has it there, in the frame of the caller.
+    /// address is a word above what they call the CFA. No other row that was seen has it there.
     fn pass_pushed(&self, address: u64, found: &mut Found) {
         const PUSHED: u64 = 16;
         const WORD: u64 = 8;
