@@ -6,5 +6,7 @@ pub mod Clashes
 pub mod Parts
 pub mod SectionOrder
 pub mod WellFormedSections
+pub mod ListedSections
 pub mod CheckedSections
 pub mod FdesOfSections
+pub mod CountedFdes

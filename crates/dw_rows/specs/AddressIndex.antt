@@ -1,5 +1,4 @@
--- FDEs in order of offset and in order of address: which share addresses, the index by address, and
--- what a checked section stores.
+-- FDEs in order of offset and in order of address: which share addresses, and the index by address.
 use Rattle.std.specs.Prelude.{◌≡◌, ℕ, ◌+◌, ◌*◌, ◌<◌, ◌≤◌, List, [], length, map, All, Contains, IfSome, slice_get, slice_index_or}
 use Rattle.dw_bytes.specs.declared.target.Format.TheVariants.{Dwarf32}
 use Rattle.dw_bytes.specs.declared.target.Order.TheVariants.{Little}
@@ -8,10 +7,8 @@ use Rattle.dw_rows.specs.declared.index.IndexEntry.{IndexEntry}
 use Rattle.std.specs.List.Sorted.{IsNonDecreasingBy}
 use Rattle.dw_frame.specs.Dialects.{debug_frame}
 use Rattle.dw_frame.specs.Records.{Cie, Fde}
-use Rattle.dw_rows.specs.Section.{FrameSection, SharesAddress, IsChecked, row_count}
+use Rattle.dw_rows.specs.Section.{SharesAddress}
 use Rattle.dw_rules.specs.RuleSet.{StoredRules}
-use Rattle.dw_rules.specs.Expressions.{cie_expressions}
-use Rattle.dw_rules.specs.Initial.{AreLeftBy}
 use Rattle.dw_rules.specs.ProgramState.{IsLeftBy}
 
 abbrev pub fde_offset : Fde → ℕ
@@ -116,13 +113,3 @@ pub record IsCountUpTo (entries : List IndexEntry) (a count : ℕ) : Type 0 wher
 -- the rules are those that the program of the CIE at this index leaves
 abbrev pub IsLeftAt : List Cie → ℕ → StoredRules → Type 0
 IsLeftAt cies place k = IfSome (slice_get cies place) (λ c. IsLeftBy c k)
-
--- What a checked section stores: its CIEs, FDEs and expressions (`s`), the rules that the CIEs'
--- programs leave (`left`), an index of its FDEs in order of address, how many of its expressions
--- belong to CIEs (`count`), and how many rows its FDEs have.
-pub record IsKept (s : FrameSection) (left : List StoredRules) (index : List IndexEntry) (count rows : ℕ) : Type 0 where
-  pub checked : IsChecked s
-  pub left_by : AreLeftBy s.cies left
-  pub index_of : IsAddressIndex s.fdes index
-  pub in_cies : count ≡ length (cie_expressions s.cies)
-  pub row_count : rows ≡ row_count s

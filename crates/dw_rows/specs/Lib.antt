@@ -27,8 +27,9 @@ pub mod Checking
 pub mod QuickCheck
 -- runs of a program that stop after each row
 pub mod RowCursors
--- FDEs in order of offset and of address: which share addresses, the address index, and what a
--- checked section stores
+-- FDEs in order of offset and of address: which share addresses, and the address index
 pub mod AddressIndex
+-- sections whose FDEs are listed before their programs are checked, and what they store
+pub mod Listing
 -- the expressions that have passed their check
 pub mod KeptExpressions

@@ -20,10 +20,11 @@ ghost use Rattle.dw_rules.specs.Expressions.{cie_expressions, frame_expressions}
 ghost use Rattle.dw_rules.specs.BorrowedExpressions.{borrowed_by};
 ghost use Rattle.dw_rules.specs.RowExpressions.{row_expressions};
 ghost use Rattle.dw_rows.specs.RowCursors.{Lends};
+ghost use Rattle.dw_rows.specs.Listing.{IsKept};
 
 use crate::checked_expressions::CheckedExpressions;
-use crate::cie_search::{find_cie, set_rules_of_cie};
-use crate::index::{IndexEntry, covering, first_overlap, index_of};
+use crate::index::{IndexEntry, first_overlap, index_of};
+use crate::listed_frame::ListedFrame;
 use crate::lookup::write_row_at;
 use crate::record_checks::{check_cies, check_fdes, check_pointers};
 use crate::row_iter::Rows;
@@ -56,14 +57,7 @@ use std::marker::Model;
 /// ```
 #[derive(Drop)]
 pub struct CheckedFrame<'a> {
-    target: Target,
-    section: &'a [u8],
-    cies: Vec<CommonInformationEntry<'a>>,
-    /// For each CIE, in the order of `cies`: the rules in force after its initial instructions.
-    initial: InitialRules,
-    fdes: Vec<FrameDescriptionEntry<'a>>,
-    /// An index entry for each FDE that covers at least one address, in order of address.
-    index: Vec<IndexEntry>,
+    listed: ListedFrame<'a>,
     /// The checked expressions of all programs, each with the offset of its first byte in the
     /// section. Those of the CIEs come first.
     expressions: Vec<(u32, CheckedExpression<'a>)>,
@@ -74,30 +68,15 @@ pub struct CheckedFrame<'a> {
 }
 
 impl<'a> Model for CheckedFrame<'a> {
-    ghost use Rattle.std.specs.Prelude.{map};
-    ghost use Rattle.dw_frame.specs.Views.{cie_of, fde_of};
     ghost use Rattle.dw_rows.specs.Section.{FrameSection};
-    ghost use Rattle.dw_rows.specs.AddressIndex.{IsKept};
+    ghost use Rattle.dw_rows.specs.Listing.{IsKept};
     ghost use Rattle.dw_stack.specs.Located.{all_located};
 
     ghost Value = { FrameSection };
 
-    ghost view = { λ c. record {
-      target = c.target;
-      section = c.section.now;
-      cies = map cie_of c.cies.items;
-      fdes = map fde_of c.fdes.items;
-      expressions = all_located c.expressions.items;
-    } };
+    ghost view = { λ c. c.listed };
 
-    ghost invariant = { λ c. IsKept
-        (record {
-          target = c.target;
-          section = c.section.now;
-          cies = map cie_of c.cies.items;
-          fdes = map fde_of c.fdes.items;
-          expressions = all_located c.expressions.items;
-        }) c.initial c.index.items c.in_cies c.rows };
+    ghost invariant = { λ c. IsKept c.listed (all_located c.expressions.items) c.in_cies c.rows };
 }
 
 /// Compilers usually write FDEs of at least this many bytes. The list of FDEs is allocated with
@@ -135,7 +114,10 @@ fn records_of<'a>(
 }
 
 /// Checks that no address is covered by two FDEs. `index` has the FDEs in order of address.
-fn check_overlap(fdes: &[FrameDescriptionEntry<'_>], index: &[IndexEntry]) -> Result<(), Fault>
+pub(crate) fn check_overlap(
+    fdes: &[FrameDescriptionEntry<'_>],
+    index: &[IndexEntry],
+) -> Result<(), Fault>
     requires fdes { Ascends fde_offset (map fde_of fdes.now) }
     requires index { IsAddressIndex (map fde_of fdes.now) index.now }
     ensures { Checks (first_fault (overlap_fault (map fde_of fdes.now))
@@ -186,7 +168,7 @@ fn check_programs<'a>(
     let mut checked = CheckedExpressions::new(alloc);
     let initial = check_cies(alloc, &mut context.state, &mut checked, cies)?;
     let in_cies = checked.count();
-    let rows = check_fdes(&mut context, &mut checked, cies, &initial, fdes)?;
+    let rows = check_fdes(&mut context, &mut checked, cies, &initial, fdes, &[])?;
     Ok(CheckedPrograms {
         initial,
         expressions: checked.to_vec()?,
@@ -250,13 +232,9 @@ pub fn check_records<'a>(
         in_cies,
         rows,
     } = programs;
+    let listed = ListedFrame::of_parts(target, section, cies, initial, fdes, index);
     Ok(CheckedFrame {
-        target,
-        section,
-        cies,
-        initial,
-        fdes,
-        index,
+        listed,
         expressions,
         in_cies,
         rows,
@@ -286,11 +264,38 @@ pub fn check_frame<'a>(
 }
 
 impl<'a> CheckedFrame<'a> {
+    /// A listed section whose programs have all been checked, with their expressions. `in_cies` of them
+    /// belong to CIEs, and all FDEs have `rows` rows.
+    pub(crate) fn of_parts(
+        listed: ListedFrame<'a>,
+        expressions: Vec<(u32, CheckedExpression<'a>)>,
+        in_cies: usize,
+        rows: u128,
+    ) -> Self
+        requires { IsKept listed (all_located expressions.items) in_cies rows }
+        ensures { result ≡ listed.entry }
+    {
+        CheckedFrame {
+            listed,
+            expressions,
+            in_cies,
+            rows,
+        }
+    }
+
+    /// The section's CIEs and FDEs.
+    pub fn listed(&self) -> &ListedFrame<'a>
+        ensures listed { result.now ≡ self.now }
+        ensures checked { IsChecked self.now }
+    {
+        &self.listed
+    }
+
     /// The target that the section was read with.
     pub fn target(&self) -> Target
         ensures { result ≡ self.now.target }
     {
-        self.target
+        self.listed.target()
     }
 
     /// The bytes of the section, which has passed its check.
@@ -298,7 +303,7 @@ impl<'a> CheckedFrame<'a> {
         ensures section { result.now ≡ self.now.section }
         ensures checked { IsChecked self.now }
     {
-        self.section
+        self.listed.section()
     }
 
     /// All CIEs, in the order of the section. Each CIE's program has passed its check.
@@ -306,7 +311,7 @@ impl<'a> CheckedFrame<'a> {
         ensures cies { map cie_of result.now ≡ self.now.cies }
         ensures good { (c : Cie) → Contains self.now.cies c → cie_fault c ≡ None }
     {
-        self.cies.as_slice()
+        self.listed.cies()
     }
 
     /// All FDEs, in the order of the section. No FDE covers an address past the target's highest
@@ -316,7 +321,7 @@ impl<'a> CheckedFrame<'a> {
         ensures fit { (f : Fde) → Contains self.now.fdes f
             → f.initial_location + f.address_range ≤ top_of self.now.target }
     {
-        self.fdes.as_slice()
+        self.listed.fdes()
     }
 
     /// The number of rows of all FDEs, added up. The check counted them, so this is O(1).
@@ -342,7 +347,7 @@ impl<'a> CheckedFrame<'a> {
         ensures fit { IfSome result (λ fde. fde.initial_location + fde.address_range
             ≤ top_of self.now.target) }
     {
-        covering(&self.fdes, &self.index, address)
+        self.listed.fde_for_address(address)
     }
 
     /// The CIE of one of this section's FDEs, found by binary search. The programs of both have
@@ -353,10 +358,7 @@ impl<'a> CheckedFrame<'a> {
         ensures cie_program { cie_fault (cie_of result) ≡ None }
         ensures fde_program { fde_fault (cie_of result) (fde_of fde.now) ≡ None }
     {
-        match find_cie(&self.cies, fde.cie_pointer) {
-            Some(cie) => cie,
-            None => unreachable!(),
-        }
+        self.listed.cie_of(fde)
     }
 
     /// Returns the CIE of one of this section's FDEs, and stores in `state`, as the initial rules,
@@ -375,10 +377,7 @@ impl<'a> CheckedFrame<'a> {
         ensures left { IsLeftBy (cie_of result) state.new.initial_rules }
         ensures lends { Lends self.now.expressions (cie_of result) (fde_of fde.now) }
     {
-        match set_rules_of_cie(state, &self.cies, &self.initial, near, fde.cie_pointer) {
-            Some(cie) => cie,
-            None => unreachable!(),
-        }
+        self.listed.begin_with_cie(state, near, fde)
     }
 
     /// An index entry for each FDE that covers at least one address, in order of address.
@@ -386,7 +385,7 @@ impl<'a> CheckedFrame<'a> {
         ensures index { IsAddressIndex self.now.fdes result.now }
         ensures checked { IsChecked self.now }
     {
-        self.index.as_slice()
+        self.listed.index()
     }
 
     /// The section's checked expressions, borrowed.

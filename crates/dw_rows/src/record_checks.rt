@@ -1,6 +1,6 @@
 //! The checks of a section's CIE_pointers, of its CIEs' programs, and of its FDEs' programs.
 
-ghost use Rattle.std.specs.Prelude.{◌≡◌, ◌<◌, ◌++◌, None, map, length, slice_get, IfOk, OnOk};
+ghost use Rattle.std.specs.Prelude.{◌≡◌, ◌≢◌, ◌<◌, ◌++◌, ℕ, None, map, length, slice_get, slice_index_or, IfOk, IfSome, OnOk};
 ghost use Rattle.dw_bytes.specs.Answers.{Checks, Answers};
 ghost use Rattle.dw_frame.specs.Views.{cie_of, fde_of};
 ghost use Rattle.dw_rules.specs.Expressions.{cie_expressions, expressions_of, fde_expressions};
@@ -8,6 +8,7 @@ ghost use Rattle.dw_rules.specs.ProgramFault.{cie_fault};
 ghost use Rattle.dw_rows.specs.Section.{cie_at, first_fault, pointer_fault, program_fault, placed_rows};
 ghost use Rattle.std.specs.List.{flat_map};
 ghost use Rattle.dw_rows.specs.AddressIndex.{IsLeftAt, cie_offset};
+ghost use Rattle.dw_rows.specs.Listing.{AreCounted, not_counted};
 ghost use Rattle.dw_frame.specs.Bounds.{Ascends};
 ghost use Rattle.dw_rules.specs.Initial.{AreLeftBy};
 
@@ -86,20 +87,38 @@ fn check_fde_of_cie<'a>(
     quick_or_full_check(context, checked, &cies[place], fde)
 }
 
+/// In place of a number of rows: an FDE's program isn't checked yet, or it has expressions.
+pub const NOT_COUNTED: u32 = u32::MAX;
+
+/// How many rows the FDE at the index `place` has, if `counted` says so.
+#[inline(always)]
+fn rows_counted(counted: &[u32], place: usize) -> Option<u32>
+    ensures { IfSome result (λ rows. (place < length counted.now) × (rows ≢ not_counted)
+        × ((d : ℕ) → slice_index_or counted.now place d ≡ rows)) }
+{
+    match counted.get(place) {
+        Some(rows) if *rows != NOT_COUNTED => Some(*rows),
+        _ => None,
+    }
+}
+
 /// Checks each FDE's program, starting from the rules that its CIE's program leaves. Adds the
 /// programs' expressions to `checked`, and returns how many rows all FDEs have together. Each
-/// CIE_pointer must be the offset of a CIE.
+/// CIE_pointer must be the offset of a CIE. FDEs that have a number of rows in `counted`, at the
+/// FDE's index, have been checked.
 pub fn check_fdes<'a>(
     context: &mut UnwindContext,
     checked: &mut CheckedExpressions<'a>,
     cies: &[CommonInformationEntry<'a>],
     initial: &InitialRules,
     fdes: &[FrameDescriptionEntry<'a>],
+    counted: &[u32],
 ) -> Result<u128, Fault>
     requires order { Ascends cie_offset (map cie_of cies.now) }
     requires left { AreLeftBy (map cie_of cies.now) initial.now }
     requires pointed { first_fault (pointer_fault (map cie_of cies.now))
         (map fde_of fdes.now) ≡ None }
+    requires counted { AreCounted (map cie_of cies.now) (map fde_of fdes.now) counted.now }
     ensures answer { Answers (first_fault (program_fault (map cie_of cies.now))
         (map fde_of fdes.now)) result }
     ensures kept { OnOk result (checked.new ≡ checked.old ++ fde_expressions (map fde_of fdes.now)) }
@@ -108,11 +127,15 @@ pub fn check_fdes<'a>(
 {
     let mut rows = 0;
     let mut last = None;
-    for fde in fdes {
+    for (place, fde) in fdes.iter().enumerate() {
+        if let Some(known) = rows_counted(counted, place) {
+            rows += u128::from(known);
+            continue;
+        }
         match set_rules_after(&mut context.state, cies, initial, last, fde.cie_pointer) {
-            Some(place) => {
-                rows += u128::from(check_fde_of_cie(context, checked, cies, place, fde)?);
-                last = Some(place);
+            Some(cie) => {
+                rows += u128::from(check_fde_of_cie(context, checked, cies, cie, fde)?);
+                last = Some(cie);
             }
             None => unreachable!(),
         }

@@ -23,6 +23,7 @@ use Rattle.dw_rules.specs.RuleSet.{LendsRules}
 use Rattle.dw_rules.specs.RowsWithExpressions.{LendsRule, LendsCfa, LendsEach}
 use Rattle.dw_rows.specs.GoodPrograms.{prefix, rule_after, IsGoodFdeProgram}
 use Rattle.dw_rows.specs.Clauses.{IsRowAt, start_in, program_in}
+use Rattle.dw_rows.specs.Listing.{IsListed}
 use Rattle.dw_rows.specs.Section.{FrameSection, IsChecked, frame_with}
 use Rattle.dw_rows.specs.RowCursors.{RowCursor, StandsAfter, LendsTo, Lends}
 use Rattle.dw_rules.proofs.NamedExpressions.{rules-have, cfa-has, listed-have}
@@ -31,6 +32,7 @@ use Rattle.dw_rows.proofs.expressions.ExpressionOrder.{expression-found, cie-exp
 use Rattle.dw_rows.proofs.programs.Programs.{effects-good, good-read-fde, start-same}
 use Rattle.dw_rules.proofs.Tables.{rule_list-table, rule_list-same}
 use Rattle.dw_rows.proofs.sections.CheckedSections.{in-programs}
+use Rattle.dw_rows.proofs.sections.ListedSections.{checked-listed}
 
 -- ---- the rules that a cursor has
 
@@ -160,9 +162,9 @@ read-lent es cie items found x among =
     let it = of-effect cie items x among in
     subst (LendsEffect es) it.2 (effect-lent es cie (it.0).1 (λ e has. found it.0 e it.1 has))
 
--- ---- the expressions of a checked section
+-- ---- the expressions of a section
 
-found-in : (s : FrameSection) → IsChecked s → (e : LocatedExpression) → Contains (frame_expressions s.cies s.fdes) e
+found-in : (s : FrameSection) → IsListed s → (e : LocatedExpression) → Contains (frame_expressions s.cies s.fdes) e
     → expression_at s.expressions e.offset ≡ Some e
 found-in s k e among =
     let t = frame_with s.target s.section k.records in
@@ -175,13 +177,13 @@ found-in s k e among =
 pub one-at-offset : (s : FrameSection) → IsChecked s → (d e : LocatedExpression) → Contains s.expressions d → Contains s.expressions e
     → d.offset ≡ e.offset → d ≡ e
 one-at-offset s k d e d_in e_in same =
-    let first : expression_at s.expressions d.offset ≡ Some d = found-in s k d (in-programs s k d d_in) in
-    let second : expression_at s.expressions e.offset ≡ Some e = found-in s k e (in-programs s k e e_in) in
+    let first : expression_at s.expressions d.offset ≡ Some d = found-in s (checked-listed s k) d (in-programs s k d d_in) in
+    let second : expression_at s.expressions e.offset ≡ Some e = found-in s (checked-listed s k) e (in-programs s k e e_in) in
     let both : Some d ≡ Some e = sym first ∙ ap (expression_at s.expressions) same ∙ second in
     cc
 
-pub lends-in : (s : FrameSection) → IsChecked s → (c : Cie) (f : Fde) → Contains s.cies c → Contains s.fdes f → Lends s.expressions c f
-lends-in s k c f c_in f_in =
+pub lends-listed : (s : FrameSection) → IsListed s → (c : Cie) (f : Fde) → Contains s.cies c → Contains s.fdes f → Lends s.expressions c f
+lends-listed s k c f c_in f_in =
     let of_cie : (x : Effect) → Contains (effects_of_cie c) x → LendsEffect s.expressions x = λ x among. read-lent s.expressions c
     (values_in (instructions_of c.program)) (λ item e at has. found-in s k e (of-frame-cie s.cies s.fdes c e c_in
     (of-instruction (values_in (instructions_of c.program)) item e at has))) x
@@ -193,6 +195,9 @@ lends-in s k c f c_in f_in =
       to_cie = record { rules = λ q x among. of_cie (sets q x) among; cfas = λ d among. of_cie (defines_cfa d) among };
       to_fde = record { rules = λ q x among. of_fde (sets q x) among; cfas = λ d among. of_fde (defines_cfa d) among };
     }
+
+pub lends-in : (s : FrameSection) → IsChecked s → (c : Cie) (f : Fde) → Contains s.cies c → Contains s.fdes f → Lends s.expressions c f
+lends-in s k = lends-listed s (checked-listed s k)
 
 -- ---- the expressions of CIEs are in order, and so are those of FDEs
 

@@ -10,14 +10,13 @@ use Rattle.dw_frame.specs.Bounds.{ArePlaced, Ascends, IsSoundCie, IsSoundFde}
 use Rattle.dw_stack.specs.Located.{LocatedExpression}
 use Rattle.dw_rules.specs.Expressions.{cie_expressions, frame_expressions}
 use Rattle.dw_rules.specs.ProgramFault.{cie_fault}
-use Rattle.dw_rows.specs.Section.{FrameSection, CoversOnce, IsChecked, section_fault, frame_of, frame_with, parts_fault, placed_rows, rows_in}
+use Rattle.dw_rows.specs.Section.{FrameSection, CoversOnce, IsChecked, section_fault, frame_of, frame_by, frame_with, parts_fault, placed_rows, rows_in}
+use Rattle.dw_rows.specs.Section.{AreReadIn}
 use Rattle.dw_rules.specs.RowsWithExpressions.{row_with_expressions}
-use Rattle.dw_rules.specs.RuleSet.{StoredRules}
-use Rattle.dw_rules.specs.Initial.{AreLeftBy}
-use Rattle.dw_rows.specs.AddressIndex.{cie_offset, fde_offset, IsAddressIndex, IsKept}
-use Rattle.dw_rows.specs.declared.index.IndexEntry.{IndexEntry}
-use Rattle.dw_rows.proofs.Faults.{option_or-none, none-each}
-use Rattle.dw_rows.proofs.sections.Parts.{parts-pass, covers-once-in}
+use Rattle.dw_rows.specs.AddressIndex.{cie_offset, fde_offset}
+use Rattle.dw_rows.specs.Listing.{IsKept}
+use Rattle.dw_rows.proofs.Faults.{option_or-none}
+use Rattle.dw_rows.proofs.sections.ListedSections.{checked-listed, listed-cies-ascend, listed-cies-good, listed-fdes-ascend, listed-fits, listed-once}
 use Rattle.dw_rows.proofs.sections.SectionOrder.{placed-cies-ascend, placed-fdes-ascend, placed-cies-sound, placed-fdes-sound, read-placed}
 
 -- records that lie in a section, and have no fault, make an accepted section
@@ -38,18 +37,16 @@ pub checked-parts : (s : FrameSection) → IsChecked s → parts_fault s.cies s.
 checked-parts s k = k.faultless
 
 pub checked-cies-ascend : (s : FrameSection) → IsChecked s → Ascends cie_offset s.cies
-checked-cies-ascend s k =
-    subst (λ (t : FrameSection). Ascends cie_offset t.cies) (sym k.whole) (placed-cies-ascend s.target 0 (length s.section) k.records k.placed)
+checked-cies-ascend s k = listed-cies-ascend s (checked-listed s k)
 
 pub checked-fdes-ascend : (s : FrameSection) → IsChecked s → Ascends fde_offset s.fdes
-checked-fdes-ascend s k =
-    subst (λ (t : FrameSection). Ascends fde_offset t.fdes) (sym k.whole) (placed-fdes-ascend s.target 0 (length s.section) k.records k.placed)
+checked-fdes-ascend s k = listed-fdes-ascend s (checked-listed s k)
 
 pub checked-cies-good : (s : FrameSection) → IsChecked s → (c : Cie) → Contains s.cies c → cie_fault c ≡ None
-checked-cies-good s k = none-each cie_fault s.cies (parts-pass s.cies s.fdes (checked-parts s k)).cie_programs
+checked-cies-good s k = listed-cies-good s (checked-listed s k)
 
 pub checked-once : (s : FrameSection) → IsChecked s → CoversOnce s.fdes
-checked-once s k = covers-once-in s.cies s.fdes (checked-fdes-ascend s k) (checked-parts s k)
+checked-once s k = listed-once s (checked-listed s k)
 
 -- the programs of a checked section have the section's target and their bytes are in the section,
 -- and no FDE ends above the target's highest address
@@ -62,7 +59,7 @@ checked-fdes-sound s k f among = placed-fdes-sound s.target 0 (length s.section)
     (subst (λ (t : FrameSection). Contains t.fdes f) k.whole among)
 
 pub checked-fits : (s : FrameSection) → IsChecked s → (f : Fde) → Contains s.fdes f → f.initial_location + f.address_range ≤ top_of s.target
-checked-fits s k f among = (checked-fdes-sound s k f among).range
+checked-fits s k = listed-fits s (checked-listed s k)
 
 -- every expression listed for a checked section is in one of the section's programs
 pub in-programs : (s : FrameSection) → IsChecked s → (e : LocatedExpression) → Contains s.expressions e
@@ -84,27 +81,33 @@ count-given s (f ∷ fdes) =
     let later = count-given s fdes in
     omega (arith, placed, given, same, later)
 
--- if records lie in a section and checking their CIEs and FDEs finds no fault, what the code stores
--- about the section meets `IsKept`
-pub kept : (target : Target) (section : List ℕ) (cies : List Cie) (left : List StoredRules) (fdes : List Fde) (index : List IndexEntry)
-    (records : List Record) → ArePlaced target 0 (length section) records → cies ≡ cies_among records → fdes ≡ fdes_among records
-    → parts_fault cies fdes ≡ None → AreLeftBy cies left → IsAddressIndex fdes index → (expressions : List LocatedExpression)
-    → expressions ≡ frame_expressions cies fdes → (count : ℕ) → count ≡ length (cie_expressions cies)
-    → (rows : ℕ) → rows ≡ length (flat_map (placed_rows cies) fdes)
-    → IsKept (record { target = target; section = section; cies = cies; fdes = fdes; expressions = expressions }) left index count rows
-kept target section cies left fdes index records placed cies_is fdes_is none left_by index_of expressions all count in_cies rows counted = record {
-  checked = record {
-    records = records;
-    placed = placed;
-    whole =
-        let same : expressions ≡ frame_expressions (cies_among records) (fdes_among records) =
-        all ∙ ap (λ l. frame_expressions l fdes) cies_is ∙ ap (frame_expressions (cies_among records)) fdes_is in
-        λ i. record { target = target; section = section; cies = cies_is i; fdes = fdes_is i; expressions = same i };
-    faultless = none;
-  };
-  left_by = left_by;
-  index_of = index_of;
+-- CIEs and FDEs that were read in a section are in order of offset
+pub read-cies-ascend : (target : Target) (size : ℕ) (cies : List Cie) (fdes : List Fde) → AreReadIn target size cies fdes → Ascends cie_offset cies
+read-cies-ascend target size cies fdes read =
+    subst (Ascends cie_offset) (sym read.cies_are) (placed-cies-ascend target 0 size read.records read.placed)
+
+pub read-fdes-ascend : (target : Target) (size : ℕ) (cies : List Cie) (fdes : List Fde) → AreReadIn target size cies fdes → Ascends fde_offset fdes
+read-fdes-ascend target size cies fdes read =
+    subst (Ascends fde_offset) (sym read.fdes_are) (placed-fdes-ascend target 0 size read.records read.placed)
+
+-- CIEs and FDEs that were read in a section, and have no fault, make an accepted section
+pub read-checked : (target : Target) (section : List ℕ) (cies : List Cie) (fdes : List Fde) → AreReadIn target (length section) cies fdes
+    → parts_fault cies fdes ≡ None → IsChecked (frame_by target section cies fdes)
+read-checked target section cies fdes read none = record {
+  records = read.records;
+  placed = read.placed;
+  whole = λ i. frame_by target section (read.cies_are i) (read.fdes_are i);
+  faultless = none;
+}
+
+-- what the code stores about an accepted section meets `IsKept`
+pub kept : (s : FrameSection) → IsChecked s → (expressions : List LocatedExpression) → expressions ≡ frame_expressions s.cies s.fdes
+    → (count : ℕ) → count ≡ length (cie_expressions s.cies) → (rows : ℕ) → rows ≡ length (flat_map (placed_rows s.cies) s.fdes)
+    → IsKept s expressions count rows
+kept s checked expressions all count in_cies rows counted = record {
+  checked = checked;
+  all = all ∙ ap (λ (t : FrameSection). frame_expressions t.cies t.fdes) checked.whole
+      ∙ sym (ap (λ (t : FrameSection). t.expressions) checked.whole);
   in_cies = in_cies;
-  row_count = counted
-      ∙ count-given (record { target = target; section = section; cies = cies; fdes = fdes; expressions = expressions }) fdes;
+  row_count = counted ∙ count-given s s.fdes;
 }

@@ -1,5 +1,4 @@
-use Rattle.std.proofs.Common.{◌≡◌, List, sym, subst, ap, ◌∙◌, map, length, None, rules}
-use Rattle.dw_frame.specs.Records.{cies_among, fdes_among}
+use Rattle.std.proofs.Common.{◌≡◌, ℕ, List, sym, subst, map, length, None, rules}
 use Rattle.dw_frame.specs.Views.{cie_of, fde_of}
 use Rattle.dw_frame.specs.declared.entry.CommonInformationEntry.{CommonInformationEntry}
 use Rattle.dw_frame.specs.declared.entry.FrameDescriptionEntry.{FrameDescriptionEntry}
@@ -7,43 +6,36 @@ use Rattle.dw_stack.specs.Located.{all_located}
 use Rattle.dw_rules.specs.Expressions.{cie_expressions, frame_expressions}
 use Rattle.std.specs.List.{flat_map}
 use Rattle.dw_rows.specs.Section.{parts_fault, placed_rows}
-use Rattle.dw_rules.specs.Initial.{AreLeftBy}
-use Rattle.dw_rows.specs.AddressIndex.{cie_offset, fde_offset, IsAddressIndex}
-use Rattle.dw_frame.specs.Bounds.{Ascends}
-use Rattle.dw_rows.proofs.sections.SectionOrder.{placed-cies-ascend, placed-fdes-ascend}
-use Rattle.dw_rows.proofs.sections.CheckedSections.{kept}
+use Rattle.dw_rows.proofs.sections.CheckedSections.{kept, read-checked, read-cies-ascend, read-fdes-ascend}
+use Rattle.dw_rows.proofs.sections.ListedSections.{checked-listed}
+use Rattle.dw_rows.specs.Section.{AreReadIn, IsChecked, frame_by}
+use Rattle.dw_bytes.specs.declared.target.Target.{Target}
 use Rattle.dw_rows.proofs.sections.Standing.{parts-answered}
 use Rattle.dw_rows.proofs.checked_frame.check_records.Goals as goal
 
 pub check_parts-requires-clause-cies : goal.check_parts-requires-clause-cies
 check_parts-requires-clause-cies c =
-    let read = c.requires in
-    let cies : map cie_of c.deref.result.now ≡ cies_among read.records =
-    ap (λ (l : List CommonInformationEntry). map cie_of l) c.deref.ensures.value ∙ read.cies_are in
-    subst (Ascends cie_offset) (sym cies) (placed-cies-ascend c.args.target 0 (length c.args.section.now) read.records read.placed)
+    rw c.deref.ensures.value (read-cies-ascend _ _ _ (map fde_of c.args.fdes.items) c.requires)
 
 pub check_parts-requires-clause-fdes : goal.check_parts-requires-clause-fdes
 check_parts-requires-clause-fdes c =
-    let read = c.requires in
-    let fdes : map fde_of c.deref-2.result.now ≡ fdes_among read.records =
-    ap (λ (l : List FrameDescriptionEntry). map fde_of l) c.deref-2.ensures.value ∙ read.fdes_are in
-    subst (Ascends fde_offset) (sym fdes) (placed-fdes-ascend c.args.target 0 (length c.args.section.now) read.records read.placed)
+    rw c.deref-2.ensures.value (read-fdes-ascend _ _ (map cie_of c.args.cies.items) _ c.requires)
+
+accepted : (target : Target) (section : List ℕ) (cies read_cies : List CommonInformationEntry) (fdes read_fdes : List FrameDescriptionEntry)
+    → AreReadIn target (length section) (map cie_of cies) (map fde_of fdes) → read_cies ≡ cies → read_fdes ≡ fdes
+    → parts_fault (map cie_of read_cies) (map fde_of read_fdes) ≡ None
+    → IsChecked (frame_by target section (map cie_of cies) (map fde_of fdes))
+accepted target section cies read_cies fdes read_fdes read same_cies same_fdes none =
+    read-checked target section (map cie_of cies) (map fde_of fdes) read (rw (sym same_cies, sym same_fdes) none)
+
+pub of_parts-listed-requires-clause-listed : goal.of_parts-listed-requires-clause-listed
+of_parts-listed-requires-clause-listed c = checked-listed _ (accepted c.args.target c.args.section.now c.args.cies.items c.deref.result.now
+    c.args.fdes.items c.deref-2.result.now c.requires c.deref.ensures.value c.deref-2.ensures.value c.in_ok-programs.ensures.answer)
 
 pub invariant_of-result : goal.invariant_of-result
 invariant_of-result c =
     let cies = c.args.cies.items in
     let fdes = c.args.fdes.items in
-    let left = c.in_ok-programs.programs.initial in
-    let index = c.in_ok-programs.index.items in
-    let answer : parts_fault (map cie_of cies) (map fde_of fdes) ≡ None =
-    subst (λ (l : List CommonInformationEntry). parts_fault (map cie_of l) (map fde_of fdes) ≡ None) c.deref.ensures.value
-    (subst (λ (l : List FrameDescriptionEntry). parts_fault (map cie_of c.deref.result.now) (map fde_of l)
-    ≡ None) c.deref-2.ensures.value c.in_ok-programs.ensures.answer) in
-    let left_by : AreLeftBy (map cie_of cies) left =
-    subst (λ (l : List CommonInformationEntry). AreLeftBy (map cie_of l) left) c.deref.ensures.value c.in_ok-programs.ensures.left in
-    let index_of : IsAddressIndex (map fde_of fdes) index =
-    subst (λ (l : List FrameDescriptionEntry). IsAddressIndex
-    (map fde_of l) index) c.deref-2.ensures.value c.in_ok-programs.ensures.index in
     let expressions = c.in_ok-programs.programs.expressions.items in
     let listed : all_located expressions ≡ frame_expressions (map cie_of cies) (map fde_of fdes) =
     subst (λ (l : List CommonInformationEntry). all_located expressions ≡ frame_expressions (map cie_of l) (map fde_of fdes))
@@ -57,10 +49,9 @@ invariant_of-result c =
     ≡ length (flat_map (placed_rows (map cie_of l)) (map fde_of fdes))) c.deref.ensures.value
     (subst (λ (l : List FrameDescriptionEntry). c.in_ok-programs.programs.rows
     ≡ length (flat_map (placed_rows (map cie_of c.deref.result.now)) (map fde_of l))) c.deref-2.ensures.value c.in_ok-programs.ensures.rows) in
-    kept c.args.target c.args.section.now (map cie_of cies) left
-    (map fde_of fdes) index c.requires.records c.requires.placed c.requires.cies_are c.requires.fdes_are answer left_by index_of
-    (all_located expressions) listed c.in_ok-programs.programs.in_cies counted
-    c.in_ok-programs.programs.rows rows
+    rw c.of_parts-listed.ensures (kept _ (accepted c.args.target c.args.section.now cies c.deref.result.now
+    fdes c.deref-2.result.now c.requires c.deref.ensures.value c.deref-2.ensures.value c.in_ok-programs.ensures.answer) (all_located expressions) listed c.in_ok-programs.programs.in_cies counted
+    c.in_ok-programs.programs.rows rows)
 
 pub returns-in_err-programs-clause-inside : goal.returns-in_err-programs-clause-inside
 returns-in_err-programs-clause-inside c = parts-answered c.args.target (length c.args.section.now) (map cie_of c.args.cies.items)

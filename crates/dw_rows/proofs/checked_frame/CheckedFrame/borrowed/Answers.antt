@@ -15,8 +15,7 @@ new-requires-clause-cies c =
     ap all_located (c.split_at.ensures.front ∙ ap (λ (l : List (ℕ × CheckedExpression)). take n l) c.deref.ensures.value)
     ∙ sym (take-map located_of n items) in
     let up : Ascends expression_offset (take n (all_located items)) =
-    subst (λ (k : ℕ). Ascends expression_offset (take k (all_located items))) (sym c.self.invariant.in_cies)
-    (cies-in-order _ c.self.invariant.checked) in
+    rw (c.self.invariant.all, c.self.invariant.in_cies) (cies-in-order _ c.self.invariant.checked) in
     subst (Ascends expression_offset) (sym same) up
 
 pub new-requires-clause-fdes : goal.new-requires-clause-fdes
@@ -27,6 +26,5 @@ new-requires-clause-fdes c =
     ap all_located (c.split_at.ensures.back ∙ ap (λ (l : List (ℕ × CheckedExpression)). drop n l) c.deref.ensures.value)
     ∙ sym (drop-map located_of n items) in
     let up : Ascends expression_offset (drop n (all_located items)) =
-    subst (λ (k : ℕ). Ascends expression_offset (drop k (all_located items))) (sym c.self.invariant.in_cies)
-    (fdes-in-order _ c.self.invariant.checked) in
+    rw (c.self.invariant.all, c.self.invariant.in_cies) (fdes-in-order _ c.self.invariant.checked) in
     subst (Ascends expression_offset) (sym same) up

@@ -8,8 +8,8 @@ use Rattle.dw_frame.specs.declared.entry.FrameDescriptionEntry.{FrameDescription
 use Rattle.dw_rows.specs.Section.{FrameSection, CoversOnce, IsCoverOf}
 use Rattle.dw_rows.specs.AddressIndex.{IsAddressIndex}
 use Rattle.dw_rows.specs.declared.index.IndexEntry.{IndexEntry}
-use Rattle.dw_rows.proofs.sections.CheckedSections.{checked-once, checked-fits}
-use Rattle.dw_rows.proofs.checked_frame.CheckedFrame.fde_for_address.Goals as goal
+use Rattle.dw_rows.proofs.sections.ListedSections.{listed-once, listed-fits}
+use Rattle.dw_rows.proofs.listed_frame.ListedFrame.fde_for_address.Goals as goal
 
 -- if all FDEs end at or below the target's highest address, so does the FDE found for an address
 cover-fits : (s : FrameSection) (a : ℕ) (o : Option FrameDescriptionEntry) → IsCoverOf s.fdes a (option_map fde_of o)
@@ -27,7 +27,7 @@ covering-requires-clause-index c =
 pub covering-requires-clause-once : goal.covering-requires-clause-once
 covering-requires-clause-once c =
     subst (λ (l : List FrameDescriptionEntry). CoversOnce (map fde_of l)) (sym c.deref.ensures.value)
-    (checked-once _ c.self.invariant.checked)
+    (listed-once _ c.self.invariant.listed)
 
 pub returns-clause-only : goal.returns-clause-only
 returns-clause-only c =
@@ -39,4 +39,4 @@ pub returns-clause-fit : goal.returns-clause-fit
 returns-clause-fit c =
     cover-fits c.args.self.now c.args.address c.covering.result (returns-clause-only c)
     (subst (λ (s : FrameSection). (f : Fde) → Contains s.fdes f → f.initial_location + f.address_range ≤ top_of s.target) c.self.view_is
-    (checked-fits _ c.self.invariant.checked))
+    (listed-fits _ c.self.invariant.listed))
