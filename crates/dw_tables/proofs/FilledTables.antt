@@ -22,7 +22,7 @@ use Rattle.dw_rows.specs.Section.{IsReturnRegister}
 use Rattle.dw_rows.specs.AddressIndex.{IsIndexOf}
 use Rattle.dw_tables.specs.CompiledTable.{StoredSet, no_set, set_numbered, row_if, row_from, next_start, rows_to, placed_rows}
 use Rattle.dw_tables.specs.CompiledTable.{rows_of_each, with_register, returning, returning_by_cie, LendsSet, LendsFound, IsPlacedAt}
-use Rattle.dw_tables.specs.CompiledTable.{IsTableUpTo, IsClosedAt, IsFilled, AreEntries, ArePlacedRows}
+use Rattle.dw_tables.specs.CompiledTable.{IsTableUpTo, IsClosedAt, IsFilled, AreAllRows, AreEntries, ArePlacedRows}
 use Rattle.dw_rows.proofs.rows.Covering.{cover-rows, here, find-below, find-above, find-some}
 use Rattle.dw_rows.proofs.rows.Lookups.{row-found, row-none}
 use Rattle.dw_rows.proofs.rows.RowsWithExpressions.{find-with}
@@ -246,29 +246,43 @@ all-begin s index entries sets none no_sets =
     }))
 
 pub all-on : (s : FrameSection) (index : List Fde) (k last : ℕ) (f : Fde) (old new : List TableEntry) (old_sets new_sets : List StoredSet)
-    → IsChecked s → IsIndexOf s.fdes index → k < length index → get_or index k f ≡ f → IsFillingAll s index k last old old_sets
+    → CoversOnce s.fdes → IsIndexOf s.fdes index → k < length index → get_or index k f ≡ f → IsFillingAll s index k last old old_sets
     → IsFilled s f last old old_sets new new_sets
     → IsFillingAll s index (k + 1) (f.initial_location + f.address_range) new new_sets
-all-on s index k last f old new old_sets new_sets checked is lt at h filled = record {
+all-on s index k last f old new old_sets new_sets once is lt at h filled = record {
   table = filled.table;
-  next = λ j d le within. index-apart s.fdes index is (checked-once s checked) k j d f (omega arith) within
+  next = λ j d le within. index-apart s.fdes index is once k j d f (omega arith) within
       (get_or_default index k d f lt ∙ at);
   rows = filled.rows ∙ ap (λ l. l ++ placed_rows s f) h.rows ∙ sym (each-more s (take k index) f)
       ∙ ap (λ (l : List Fde). rows_of_each s l) (sym (take_more index k f lt ∙ ap (λ x. take k index ++ x ∷ []) at));
 }
 
 pub all-done : (s : FrameSection) (index : List Fde) (k last : ℕ) (entries new : List TableEntry) (sets new_sets : List StoredSet)
-    → IsChecked s → IsIndexOf s.fdes index → length index ≤ k → IsFillingAll s index k last entries sets
-    → IsClosedAt last entries sets new new_sets → AreEntries new new_sets × ArePlacedRows s (rows_to new_sets new 0)
-all-done s index k last entries new sets new_sets checked is all h closed =
+    → IsIndexOf s.fdes index → length index ≤ k → IsFillingAll s index k last entries sets
+    → IsClosedAt last entries sets new new_sets → AreEntries new new_sets × AreAllRows s (rows_to new_sets new 0)
+all-done s index k last entries new sets new_sets is all h closed =
     let t = closed.table s.expressions h.table in (
       record { sorted = t.sorted; within = t.within },
       record {
-        checked = checked;
+        index = index;
+        ordered = is;
+        rows_are = closed.rows s.expressions h.table 0 ∙ h.rows ∙ ap (λ (l : List Fde). rows_of_each s l) (take_all k index all);
         lends = All-from_recursion (LendsFound s.expressions) (rows_to new_sets new 0)
             (rows-lend s.expressions new_sets t.lends new t.within 0);
-        row = λ a. subst (λ (l : List (PlacedRow × ℕ)). IsPlacedAt s a (find (has a) l))
-            (sym (closed.rows s.expressions h.table 0 ∙ h.rows ∙ ap (λ (l : List Fde). rows_of_each s l) (take_all k index all)))
-            (row-in-each s index checked is a);
       },
     )
+
+-- the rows of all FDEs of a checked section are those that look-ups have to find
+pub all-placed : (s : FrameSection) (rows : List (PlacedRow × ℕ)) → AreAllRows s rows → IsChecked s → ArePlacedRows s rows
+all-placed s rows all checked = record {
+  checked = checked;
+  lends = all.lends;
+  row = λ a. subst (λ (l : List (PlacedRow × ℕ)). IsPlacedAt s a (find (has a) l)) (sym all.rows_are)
+      (row-in-each s all.index checked all.ordered a);
+}
+
+-- the same of a section and of rows by other names
+pub placed-as : (s t : FrameSection) (rows stored : List (PlacedRow × ℕ)) → t ≡ s → IsChecked s → AreAllRows t rows → stored ≡ rows
+    → ArePlacedRows s stored
+placed-as s t rows stored same checked all is =
+    rw is (all-placed s rows (subst (λ (u : FrameSection). AreAllRows u rows) same all) checked)

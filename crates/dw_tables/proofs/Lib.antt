@@ -1,9 +1,13 @@
 pub mod TableRows
+pub mod AppendedRows
+pub mod CommonInstructions
+pub mod ProgramEnds
+pub mod ProgramsUnderWay
 pub mod TableRoom
 pub mod FilledTables
+pub mod CountedRows
 pub mod CompiledTables
 pub mod TableEntries
 pub mod RuleSets
 pub mod NumberedPrograms
 pub mod NumberedStates
-pub mod LastRows

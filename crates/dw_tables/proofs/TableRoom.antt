@@ -1,6 +1,6 @@
 -- How many bytes the rows of a compiled table take, and when a limit on them is exceeded.
 use Rattle.std.proofs.Common.{◌≡◌, ℕ, zero, suc, ◌+◌, ◌*◌, ◌<◌, ◌≤◌, List, [], ◌∷◌, ◌++◌, length, get_or, take, map, Contains, refl, sym, ap, ◌∙◌}
-use Rattle.std.proofs.Common.{Some, None, subst, arith, Result, Ok, Err}
+use Rattle.std.proofs.Common.{Some, subst, arith, Result, Ok, Err}
 use Rattle.std.specs.Result.{IfErr, IsErrAnd}
 use Rattle.std.proofs.lemmas.List.{take_more, get_or_default}
 use Rattle.std.proofs.lemmas.List.Sums.{sum_by-append, sum_by-take-le}
@@ -9,19 +9,15 @@ use Rattle.dw_frame.specs.Records.{Cie, Fde}
 use Rattle.dw_stack.specs.Located.{LocatedExpression}
 use Rattle.dw_tables.specs.declared.table_room.Unmade.{Unmade}
 use Rattle.dw_tables.specs.declared.table_room.Unmade.TheVariants.{Memory, Room}
-use Rattle.dw_tables.specs.declared.table_entries.TableEntry.{TableEntry}
 use Rattle.dw_rules.specs.Rules.{PlacedRow}
 use Rattle.dw_rules.specs.RowsWithExpressions.{row_with_expressions}
-use Rattle.dw_rules.specs.ProgramState.{row_between}
-use Rattle.dw_rows.specs.RowCursors.{RowCursor, GivesNextRow, rows_left}
 use Rattle.dw_rows.specs.UnwindRows.{rows_of}
 use Rattle.dw_tables.specs.UnwindTables.{row_bytes, fde_bytes}
 use Rattle.dw_rows.specs.Section.{FrameSection, cie_in, rows_by_cie}
 use Rattle.dw_rows.specs.AddressIndex.{IsIndexOf}
-use Rattle.dw_tables.specs.CompiledTable.{StoredSet, returning, row_with, rows_to, entry_bytes, IsTableUpTo, IsPushed, IsFilling, LacksRoom}
+use Rattle.dw_tables.specs.CompiledTable.{returning, LacksRoom}
 use Rattle.dw_rules.proofs.RulesWithExpressions.{length-with}
 use Rattle.dw_rows.proofs.sections.Indexes.{AreDistinct}
-use Rattle.dw_tables.proofs.TableRows.{rows-pushed, with-cfa}
 
 -- if `room < less` implies `other < more`, then `LacksRoom why room less` implies
 -- `LacksRoom why other more`
@@ -52,7 +48,7 @@ sum-next f g (y ∷ xs) (suc k) x lt is =
 abbrev pub cost : List (PlacedRow × ℕ) → ℕ
 cost rows = sum_by (λ x. row_bytes x.0) rows
 
-cost-returning : (r : ℕ) (rows : List PlacedRow) → cost (returning r rows) ≡ sum_by row_bytes rows
+pub cost-returning : (r : ℕ) (rows : List PlacedRow) → cost (returning r rows) ≡ sum_by row_bytes rows
 cost-returning r [] = refl
 cost-returning r (row ∷ rows) =
     sum-cons (λ x. row_bytes x.0) (row, r) (returning r rows) ∙ ap (λ n. row_bytes row + n) (cost-returning r rows)
@@ -73,60 +69,6 @@ fde-cost s c f pointed =
     ∙ sym (cost-returning c.return_address_register (rows_of c f)))
 
 -- ---- the rows of an FDE
-
--- the next row, once added to the table, adds the cost of an entry with its rule set to the cost of
--- the table's rows
-pub cost-on : (es : List LocatedExpression) (c : Cie) (f : Fde) (rows : List (PlacedRow × ℕ)) (w w' : RowCursor)
-    (entries new : List TableEntry) (sets new_sets : List StoredSet) (start end : ℕ) → IsFilling c f rows w entries sets
-    → GivesNextRow w (Some (start, end)) w' → IsTableUpTo es w.context.location entries sets
-    → IsPushed entries sets start (record { rules = w'.context.current; register = c.return_address_register }) new new_sets
-    → cost (rows_to new_sets new w'.context.location) ≡ cost (rows_to sets entries w.context.location) + entry_bytes w'.context.current
-cost-on es c f rows w w' entries new sets new_sets start end h step t pushed =
-    let p = step c f h.before h.is_at in
-    let r = c.return_address_register in
-    let k : StoredSet = record { rules = w'.context.current; register = r } in
-    let row : PlacedRow × ℕ = (row_between start end k.rules, r) in
-    let from : start ≡ w.context.location = p.from in
-    let to : end ≡ w'.context.location = p.to in
-    let one : row_with start w'.context.location k ≡ row ∷ [] =
-    ap (λ n. row_with start n k) (sym to) ∙ with-cfa k.rules.cfa start end k p.cfa in
-    ap cost (rows-pushed es w.context.location entries new sets new_sets start k t pushed w'.context.location
-    ∙ ap (λ l. rows_to sets entries start ++ l) one
-    ∙ ap (λ n. rows_to sets entries n ++ row ∷ []) from)
-    ∙ sum_by-append (λ x. row_bytes x.0) (rows_to sets entries w.context.location) (row ∷ [])
-    ∙ omega arith
-
--- the cost of the rows in the table and of the next row is at most that of `rows`, the rows in the
--- table and all that are still to be added
-pub cost-next : (c : Cie) (f : Fde) (rows : List (PlacedRow × ℕ)) (w w' : RowCursor) (entries : List TableEntry) (sets : List StoredSet)
-    (start end : ℕ) → IsFilling c f rows w entries sets → GivesNextRow w (Some (start, end)) w'
-    → cost (rows_to sets entries w.context.location) + entry_bytes w'.context.current ≤ cost rows
-cost-next c f rows w w' entries sets start end h step =
-    let p = step c f h.before h.is_at in
-    let r = c.return_address_register in
-    let row : PlacedRow × ℕ = (row_between start end w'.context.current, r) in
-    let rest = returning r (rows_left c f p.after w') in
-    let all : cost (rows_to sets entries w.context.location ++ row ∷ rest) ≡ cost rows =
-    ap cost (ap (λ (l : List PlacedRow). rows_to sets entries w.context.location ++ returning r l) (sym p.rows) ∙ h.all) in
-    omega (
-      arith,
-      all,
-      sum_by-append (λ x. row_bytes x.0) (rows_to sets entries w.context.location) (row ∷ rest),
-      sum-cons (λ x. row_bytes x.0) row rest,
-    )
-
--- if no row is left to add, the rows in the table cost what all rows cost
-pub cost-all : (c : Cie) (f : Fde) (rows : List (PlacedRow × ℕ)) (w w' : RowCursor) (entries : List TableEntry) (sets : List StoredSet)
-    → IsFilling c f rows w entries sets → GivesNextRow w None w' → cost (rows_to sets entries w.context.location) ≡ cost rows
-cost-all c f rows w w' entries sets h step =
-    let none : rows_left c f h.before w ≡ [] = (step c f h.before h.is_at).0 in
-    let r = c.return_address_register in
-    let all : cost (rows_to sets entries w.context.location ++ []) ≡ cost rows =
-    ap cost (ap (λ (l : List PlacedRow). rows_to sets entries w.context.location ++ returning r l) (sym none) ∙ h.all) in
-    omega (arith, all, sum_by-append (λ x. row_bytes x.0) (rows_to sets entries w.context.location) [])
-
-pub cost-both : (l m : List (PlacedRow × ℕ)) → cost (l ++ m) ≡ cost l + cost m
-cost-both l m = sum_by-append (λ x. row_bytes x.0) l m
 
 -- ---- the cost of the rows of one FDE after another
 

@@ -11,27 +11,24 @@ use Rattle.dw_frame.specs.Records.{Cie, Fde}
 use Rattle.dw_stack.specs.Located.{LocatedExpression}
 use Rattle.dw_tables.specs.declared.table_entries.TableEntry.{TableEntry}
 use Rattle.dw_rules.specs.Rules.{PlacedCfa, PlacedRow}
-use Rattle.dw_rules.specs.InForce.{fde_start, location_of}
 use Rattle.dw_rules.specs.ProgramFault.{lacks_cfa}
 use Rattle.dw_rules.specs.RuleSet.{LendsRules}
 use Rattle.dw_rules.specs.ProgramState.{row_between}
-use Rattle.dw_rows.specs.RowCursors.{RowCursor, BeginsRows, GivesNextRow, Lends, rows_left}
-use Rattle.dw_rows.specs.UnwindRows.{rows_of, Cover}
+use Rattle.dw_rows.specs.UnwindRows.{rows_of}
 use Rattle.dw_tables.specs.UnwindTables.{has}
 use Rattle.dw_rows.specs.Section.{FrameSection, cie_in}
 use Rattle.dw_tables.specs.CompiledTable.{StoredSet, no_set, set_numbered, row_if, row_with, row_from, next_start, rows_to}
 use Rattle.dw_tables.specs.CompiledTable.{returning, returning_by_cie}
-use Rattle.dw_tables.specs.CompiledTable.{IsTableUpTo, IsClosedAt, IsBegunAt, IsPushed, IsFilling, IsFilled, IsEntryCount}
-use Rattle.dw_rows.proofs.rows.Covering.{cover-after, here, not-here-below, not-here-above}
-use Rattle.dw_rows.proofs.expressions.Lending.{lends-kept}
+use Rattle.dw_tables.specs.CompiledTable.{IsTableUpTo, IsClosedAt, IsBegunAt, IsPushed, IsFilled, IsEntryCount}
+use Rattle.dw_rows.proofs.rows.Covering.{here, not-here-below, not-here-above}
 
 -- ---- the rows after one more entry
 
-next-more : (rest : List TableEntry) (e : TableEntry) (to : ℕ) → next_start (rest ++ e ∷ []) to ≡ next_start rest e.start
+pub next-more : (rest : List TableEntry) (e : TableEntry) (to : ℕ) → next_start (rest ++ e ∷ []) to ≡ next_start rest e.start
 next-more [] e to = refl
 next-more (x ∷ rest) e to = refl
 
-rows-more : (sets : List StoredSet) (es : List TableEntry) (e : TableEntry) (to : ℕ)
+pub rows-more : (sets : List StoredSet) (es : List TableEntry) (e : TableEntry) (to : ℕ)
     → rows_to sets (es ++ e ∷ []) to ≡ rows_to sets es e.start ++ row_from sets e to
 rows-more sets [] e to = append-nil (row_from sets e to)
 rows-more sets (x ∷ rest) e to =
@@ -39,7 +36,20 @@ rows-more sets (x ∷ rest) e to =
     ∙ ap (λ l. row_from sets x (next_start rest e.start) ++ l) (rows-more sets rest e to)
     ∙ sym (append_assoc (row_from sets x (next_start rest e.start)) (rows_to sets rest e.start) (row_from sets e to))
 
-rows-grown : (sets new : List StoredSet) → ((m : ℕ) → m < length sets → set_numbered new m ≡ set_numbered sets m)
+-- the rows of entries, followed by those of more entries
+pub rows-joined : (sets : List StoredSet) (es more : List TableEntry) (to : ℕ)
+    → rows_to sets (es ++ more) to ≡ rows_to sets es (next_start more to) ++ rows_to sets more to
+rows-joined sets [] more to = refl
+rows-joined sets (x ∷ rest) more to =
+    ap (λ n. row_from sets x n ++ rows_to sets (rest ++ more) to) (next-joined rest more to)
+    ∙ ap (λ l. row_from sets x (next_start rest (next_start more to)) ++ l) (rows-joined sets rest more to)
+    ∙ sym (append_assoc (row_from sets x (next_start rest (next_start more to))) (rows_to sets rest (next_start more to)) (rows_to sets more to))
+  where
+    next-joined : (rest more : List TableEntry) (to : ℕ) → next_start (rest ++ more) to ≡ next_start rest (next_start more to)
+    next-joined [] more to = refl
+    next-joined (x ∷ rest) more to = refl
+
+pub rows-grown : (sets new : List StoredSet) → ((m : ℕ) → m < length sets → set_numbered new m ≡ set_numbered sets m)
     → (es : List TableEntry) → ((k : ℕ) (d : TableEntry) → k < length es → (get_or es k d).set < length sets) → (to : ℕ)
     → rows_to new es to ≡ rows_to sets es to
 rows-grown sets new same [] within to = refl
@@ -48,7 +58,7 @@ rows-grown sets new same (x ∷ rest) within to =
     ∙ ap (λ l. row_from sets x (next_start rest to) ++ l)
     (rows-grown sets new same rest (λ k d lt. within (suc k) d (omega arith)) to)
 
-at-more : (es : List TableEntry) (e : TableEntry) (m : ℕ) (d : TableEntry) → m < length (es ++ e ∷ [])
+pub at-more : (es : List TableEntry) (e : TableEntry) (m : ℕ) (d : TableEntry) → m < length (es ++ e ∷ [])
     → ((m < length es) × (get_or (es ++ e ∷ []) m d ≡ get_or es m d)) ⊎ ((m ≡ length es) × (get_or (es ++ e ∷ []) m d ≡ e))
 at-more es e m d lt = elim (cases_lt m (length es)) [
   | inl before ↦ inl (before, get_or_append_left es (e ∷ []) d m before)
@@ -132,88 +142,10 @@ begun-past end start old new old_sets new_sets closed = record {
 
 -- ---- the rows of an FDE
 
-pub filling-begins : (c : Cie) (f : Fde) (rows : List (PlacedRow × ℕ)) (w : RowCursor) (entries : List TableEntry) (sets : List StoredSet)
-    → BeginsRows c f w → rows_to sets entries f.initial_location ≡ rows
-    → IsFilling c f (rows ++ returning c.return_address_register (rows_of c f)) w entries sets
-filling-begins c f rows w entries sets b is =
-    let r = c.return_address_register in record {
-      before = [];
-      is_at = b.is_at;
-      all = ap (λ l. l ++ returning r (rows_left c f [] w)) (ap (λ n. rows_to sets entries n) b.location ∙ is)
-          ∙ ap (λ (l : List PlacedRow). rows ++ returning r l) b.rows;
-    }
-
 pub with-cfa : (o : Option PlacedCfa) (start to : ℕ) (k : StoredSet) → lacks_cfa o ≡ false
     → row_if o start to k ≡ (row_between start to k.rules, k.register) ∷ []
 with-cfa None start to k some = cc
 with-cfa (Some c) start to k some = refl
-
-pub filling-on : (es : List LocatedExpression) (c : Cie) (f : Fde) (rows : List (PlacedRow × ℕ)) (w w' : RowCursor)
-    (entries new : List TableEntry) (sets new_sets : List StoredSet) (start end : ℕ) → IsFilling c f rows w entries sets
-    → GivesNextRow w (Some (start, end)) w' → IsTableUpTo es w.context.location entries sets
-    → IsPushed entries sets start (record { rules = w'.context.current; register = c.return_address_register }) new new_sets
-    → IsFilling c f rows w' new new_sets
-filling-on es c f rows w w' entries new sets new_sets start end h step t pushed =
-    let p = step c f h.before h.is_at in
-    let r = c.return_address_register in
-    let k : StoredSet = record { rules = w'.context.current; register = r } in
-    let rest = returning r (rows_left c f p.after w') in
-    let row : PlacedRow × ℕ = (row_between start end k.rules, r) in
-    let from : start ≡ w.context.location = p.from in
-    let to : end ≡ w'.context.location = p.to in
-    let one : row_with start w'.context.location k ≡ row ∷ [] =
-    ap (λ n. row_with start n k) (sym to) ∙ with-cfa k.rules.cfa start end k p.cfa in
-    record {
-      before = p.after;
-      is_at = p.is_at;
-      all = ap (λ l. l ++ rest) (rows-pushed es w.context.location entries new sets new_sets start k t pushed w'.context.location
-          ∙ ap (λ l. rows_to sets entries start ++ l) one)
-          ∙ append_assoc (rows_to sets entries start) (row ∷ []) rest
-          ∙ ap (λ n. rows_to sets entries n ++ row ∷ rest) from
-          ∙ ap (λ (l : List PlacedRow). rows_to sets entries w.context.location ++ returning r l) (sym p.rows)
-          ∙ h.all;
-    }
-
-pub filling-table : (es : List LocatedExpression) (c : Cie) (f : Fde) (rows : List (PlacedRow × ℕ)) (w w' : RowCursor)
-    (entries new : List TableEntry) (sets new_sets : List StoredSet) (start end : ℕ) → IsFilling c f rows w entries sets
-    → GivesNextRow w (Some (start, end)) w' → IsTableUpTo es w.context.location entries sets
-    → IsPushed entries sets start (record { rules = w'.context.current; register = c.return_address_register }) new new_sets
-    → LendsRules es w'.context.current → IsTableUpTo es w'.context.location new new_sets
-filling-table es c f rows w w' entries new sets new_sets start end h step t pushed lends =
-    let p = step c f h.before h.is_at in
-    let from : start ≡ w.context.location = p.from in
-    let to : end ≡ w'.context.location = p.to in
-    let on : start < end = p.some in
-    table-further es start w'.context.location new new_sets
-    (table-pushed es w.context.location entries new sets new_sets start
-    (record { rules = w'.context.current; register = c.return_address_register }) t pushed (omega arith) lends) (omega arith)
-
--- if the programs of the CIE and the FDE name only expressions among `es`, the rules of the next
--- row name only expressions among `es`
-pub filling-lends : (es : List LocatedExpression) (c : Cie) (f : Fde) (rows : List (PlacedRow × ℕ)) (w w' : RowCursor) (entries : List TableEntry)
-    (sets : List StoredSet) (start end : ℕ) → IsFilling c f rows w entries sets → GivesNextRow w (Some (start, end)) w' → Lends es c f
-    → LendsRules es w'.context.current
-filling-lends es c f rows w w' entries sets start end h step lends =
-    let p = step c f h.before h.is_at in lends-kept es c f p.after w' lends p.is_at
-
--- if there is no next row, the cursor's location is the end of the FDE's address range
-pub filling-end : (c : Cie) (f : Fde) (rows : List (PlacedRow × ℕ)) (w w' : RowCursor) (entries : List TableEntry) (sets : List StoredSet)
-    → IsFilling c f rows w entries sets → GivesNextRow w None w' → w.context.location ≡ f.initial_location + f.address_range
-filling-end c f rows w w' entries sets h step =
-    let none : rows_left c f h.before w ≡ [] = (step c f h.before h.is_at).0 in
-    let at : w.context.location ≡ location_of (fde_start c f) h.before = h.is_at.follows.location in
-    let covered : Cover (location_of (fde_start c f) h.before) (rows_left c f h.before w) (f.initial_location + f.address_range) =
-    cover-after c f h.before w.instructions h.is_at.follows.within h.is_at.none in
-    at ∙ subst (λ (l : List PlacedRow). Cover (location_of (fde_start c f) h.before) l (f.initial_location + f.address_range)) none covered
-
-pub filling-all : (c : Cie) (f : Fde) (rows : List (PlacedRow × ℕ)) (w w' : RowCursor) (entries : List TableEntry) (sets : List StoredSet)
-    → IsFilling c f rows w entries sets → GivesNextRow w None w' → rows_to sets entries (f.initial_location + f.address_range) ≡ rows
-filling-all c f rows w w' entries sets h step =
-    let none : rows_left c f h.before w ≡ [] = (step c f h.before h.is_at).0 in
-    ap (λ n. rows_to sets entries n) (sym (filling-end c f rows w w' entries sets h step))
-    ∙ sym (append-nil (rows_to sets entries w.context.location))
-    ∙ ap (λ (l : List PlacedRow). rows_to sets entries w.context.location ++ returning c.return_address_register l) (sym none)
-    ∙ h.all
 
 pub filled : (s : FrameSection) (c : Cie) (f : Fde) (last : ℕ) (old new : List TableEntry) (old_sets new_sets : List StoredSet)
     → cie_in s f ≡ Some c

@@ -1,9 +1,10 @@
 -- All rows of a section in order of address, as a compiled table stores them. No contract of a
 -- public call uses this file.
-use Rattle.std.specs.Prelude.{map, ◌≡◌, ℕ, ◌+◌, ◌-◌, ◌*◌, ◌<◌, ◌≤◌, List, [], ◌∷◌, ◌++◌, length, All, IfSome, Option, Some, None, find, slice_get, slice_index_or}
+use Rattle.std.specs.Prelude.{map, ◌≡◌, ℕ, ◌+◌, ◌-◌, ◌*◌, ◌<◌, ◌≤◌, List, [], ◌∷◌, ◌++◌, length, All, Contains, IfSome, Option, Some, None, find, slice_get, slice_index_or}
 use Rattle.std.specs.List.{sum_by}
 use Rattle.std.specs.Option.{option_map}
 use Rattle.std.specs.List.Sorted.{IsNonDecreasingBy}
+use Rattle.dw_bytes.specs.declared.fault.Fault.{Fault}
 use Rattle.dw_frame.specs.Records.{Cie, Fde}
 use Rattle.dw_stack.specs.Located.{LocatedExpression}
 use Rattle.dw_tables.specs.declared.table_room.Unmade.{Unmade}
@@ -11,13 +12,12 @@ use Rattle.dw_tables.specs.declared.table_room.Unmade.TheVariants.{Memory, Room}
 use Rattle.dw_tables.specs.declared.table_entries.EntrySpan.{EntrySpan}
 use Rattle.dw_tables.specs.declared.table_entries.TableEntry.{TableEntry}
 use Rattle.dw_rules.specs.Rules.{PlacedCfa, PlacedRow, Row}
-use Rattle.dw_rules.specs.Effects.{Effect}
 use Rattle.dw_rules.specs.RuleSet.{StoredRules, LendsRules}
 use Rattle.dw_rules.specs.RowsWithExpressions.{row_with_expressions, LendsCfa, LendsEach}
 use Rattle.dw_rules.specs.ProgramState.{row_between}
-use Rattle.dw_rows.specs.RowCursors.{RowCursor, StandsAfter, rows_left}
 use Rattle.dw_rows.specs.UnwindRows.{rows_of}
-use Rattle.dw_rows.specs.Section.{FrameSection, IsChecked, IsReturnRegister, cie_in, row_of}
+use Rattle.dw_rows.specs.AddressIndex.{IsIndexOf}
+use Rattle.dw_rows.specs.Section.{FrameSection, IsChecked, IsReturnRegister, cie_in, program_fault, row_of}
 use Rattle.dw_tables.specs.UnwindTables.{has}
 
 -- each offset added to `base`
@@ -106,6 +106,13 @@ abbrev pub rows_of_each : FrameSection → List Fde → List (PlacedRow × ℕ)
 rows_of_each s [] = []
 rows_of_each s (f ∷ fdes) = placed_rows s f ++ rows_of_each s fdes
 
+-- ---- rows, and the expressions that they name
+
+-- each expression that the row refers to is among `es`, and has the kind that its rule needs
+pub record LendsFound (es : List LocatedExpression) (found : PlacedRow × ℕ) : Type 0 where
+  pub cfa : IfSome found.0.cfa (LendsCfa es)
+  pub rules : LendsEach es found.0.rules
+
 -- ---- a table that is being filled
 
 abbrev pub LendsSet : List LocatedExpression → StoredSet → Type 0
@@ -149,18 +156,26 @@ pub record IsPushed (old : List TableEntry) (old_sets : List StoredSet) (start :
   pub entries : new ≡ old ++ record { start = start; set = number } ∷ []
   pub numbered : IsNumbered old_sets k number new_sets
 
--- the rows in the table, followed by the rows that the cursor hasn't reached yet, are `rows`
-pub record IsFilling (c : Cie) (f : Fde) (rows : List (PlacedRow × ℕ)) (w : RowCursor) (entries : List TableEntry) (sets : List StoredSet)
-    : Type 0 where
-  pub before : List Effect
-  pub is_at : StandsAfter c f before w
-  pub all : rows_to sets entries w.context.location ++ returning c.return_address_register (rows_left c f before w) ≡ rows
-
 -- the FDE's rows were added after the old rows, which end at `last`
 pub record IsFilled (s : FrameSection) (f : Fde) (last : ℕ) (old : List TableEntry) (old_sets : List StoredSet) (new : List TableEntry)
     (new_sets : List StoredSet) : Type 0 where
   pub table : IsTableUpTo s.expressions (f.initial_location + f.address_range) new new_sets
   pub rows : rows_to new_sets new (f.initial_location + f.address_range) ≡ rows_to old_sets old last ++ placed_rows s f
+
+-- the rows are those of the FDEs that cover addresses, in order of address
+pub record AreAllRows (s : FrameSection) (rows : List (PlacedRow × ℕ)) : Type 0 where
+  pub index : List Fde
+  pub ordered : IsIndexOf s.fdes index
+  pub rows_are : rows ≡ rows_of_each s index
+  pub lends : All (LendsFound s.expressions) rows
+
+-- the FDE's program has a fault
+abbrev pub IsFaulty : List Cie → Fde → Type 0
+IsFaulty cies f = (fault : Fault) × (program_fault cies f ≡ Some fault)
+
+-- the program of one of the section's FDEs has a fault
+abbrev pub HasFaulty : FrameSection → Type 0
+HasFaulty s = (f : Fde) × Contains s.fdes f × IsFaulty s.cies f
 
 -- ---- the room that a table may take
 
@@ -235,12 +250,7 @@ pub record AreEntries (entries : List TableEntry) (sets : List StoredSet) : Type
   pub sorted : IsNonDecreasingBy entry_start entries
   pub within : (k : ℕ) (d : TableEntry) → k < length entries → (slice_index_or entries k d).set < length sets
 
--- ---- rows, and the expressions that they name
-
--- each expression that the row refers to is among `es`, and has the kind that its rule needs
-pub record LendsFound (es : List LocatedExpression) (found : PlacedRow × ℕ) : Type 0 where
-  pub cfa : IfSome found.0.cfa (LendsCfa es)
-  pub rules : LendsEach es found.0.rules
+-- ---- rows with their expressions
 
 -- the row with its expressions in place of their offsets, and its return address register
 abbrev pub found_with_expressions : List LocatedExpression → PlacedRow × ℕ → Row × ℕ

@@ -9,3 +9,5 @@ pub mod UnwindTables
 pub mod CompiledTable
 -- programs that run on rule sets with numbers
 pub mod NumberedPrograms
+-- the rows of an FDE, which are appended while its program is checked
+pub mod FdeRows

@@ -4,7 +4,6 @@ ghost use Rattle.std.specs.Prelude.{◌≡◌, ◌+◌, ◌<◌, ◌≤◌, [], 
 ghost use Rattle.std.specs.Bool.{OnTrue};
 ghost use Rattle.dw_tables.specs.CompiledTable.{AreAround, IsBracketed};
 
-use crate::spare_capacity::cut_spare;
 use std::alloc::{AllocError, Global};
 use std::marker::Model;
 
@@ -101,14 +100,12 @@ impl Starts {
         self.far.clear();
     }
 
-    /// Copies each array that has much spare capacity to a new one (`cut_spare`). The contract doesn't
-    /// say so: it speaks only of the elements.
-    pub fn cut(&mut self, alloc: Global) -> Result<(), AllocError>
+    /// Gives back spare capacity. The contract doesn't say so: it speaks only of the elements.
+    pub fn cut(&mut self)
         ensures { self.new ≡ self.old }
     {
-        cut_spare(alloc, &mut self.near)?;
-        cut_spare(alloc, &mut self.far)?;
-        Ok(())
+        self.near.shrink_to_fit();
+        self.far.shrink_to_fit();
     }
 
     /// How many addresses there are.

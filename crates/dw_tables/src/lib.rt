@@ -5,13 +5,13 @@
 mod chosen_sets;
 mod entry_starts;
 mod expression_copies;
+mod fde_rows;
 pub mod laws;
 mod numbered_program;
 mod rule_numbers;
 mod rule_set_numbers;
 mod rule_sets;
 mod rule_steps;
-mod spare_capacity;
 mod stored_table;
 mod table;
 mod table_entries;

@@ -2,7 +2,6 @@
 
 ghost use Rattle.std.specs.Prelude.{◌≡◌, ◌<◌, [], ◌∷◌, ◌++◌, IsTrue, IfOk, IfSome, MatchResult, length, slice_index_or, ℕ};
 
-use crate::spare_capacity::cut_spare;
 use std::alloc::{AllocError, Global};
 use std::marker::Model;
 
@@ -89,14 +88,12 @@ impl SetNumbers {
         self.wide.clear();
     }
 
-    /// Copies each array that has much spare capacity to a new one (`cut_spare`). The contract doesn't
-    /// say so: it speaks only of the elements.
-    pub fn cut(&mut self, alloc: Global) -> Result<(), AllocError>
+    /// Gives back spare capacity. The contract doesn't say so: it speaks only of the elements.
+    pub fn cut(&mut self)
         ensures { self.new ≡ self.old }
     {
-        cut_spare(alloc, &mut self.narrow)?;
-        cut_spare(alloc, &mut self.wide)?;
-        Ok(())
+        self.narrow.shrink_to_fit();
+        self.wide.shrink_to_fit();
     }
 
     /// How many numbers there are.

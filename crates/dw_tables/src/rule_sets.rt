@@ -1,6 +1,7 @@
 //! A list of rule sets, each with its return address register.
 
-ghost use Rattle.std.specs.Prelude.{◌≡◌, ◌+◌, ◌*◌, ◌<◌, ◌≤◌, [], ◌∷◌, ◌++◌, MatchResult, length, Some, slice_get};
+ghost use Rattle.std.specs.Prelude.{◌≡◌, ◌+◌, ◌*◌, ◌<◌, ◌≤◌, [], ◌∷◌, ◌++◌, MatchResult, length, not, Some, slice_get};
+ghost use Rattle.dw_rules.specs.ProgramFault.{lacks_cfa};
 ghost use Rattle.std.specs.Bool.{OnTrue};
 ghost use Rattle.std.specs.Option.{option_map};
 ghost use Rattle.dw_rules.specs.Rules.{IsTable};
@@ -132,6 +133,15 @@ impl RuleSets {
             → ArePlain (result.0).entries.now (result.0).plain_below }
     {
         (self.rules.lend(place), self.registers[place])
+    }
+
+    /// Whether the rule set at index `place` has a rule for the CFA.
+    pub fn has_cfa(&self, place: usize) -> bool
+        requires { place < length self.now }
+        ensures { result ≡ not (lacks_cfa (rules_at self.now place).cfa) }
+    {
+        let (lent, _) = self.lend(place);
+        lent.cfa.is_some()
     }
 
     /// Whether the rule set at index `place` is a usual one: its CFA is a register plus an offset,

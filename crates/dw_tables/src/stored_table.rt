@@ -1,26 +1,31 @@
 //! All rows of a section in order of address, as a compiled table stores them. The rules refer to
 //! an expression by its offset in the section.
 
-ghost use Rattle.std.specs.Prelude.{◌≡◌, ◌+◌, ◌*◌, ◌≤◌, Contains, IfOk, IfErr, IfSome, Some, All, find, length};
+ghost use Rattle.std.specs.Prelude.{◌≡◌, ◌≢◌, ◌+◌, ◌*◌, ◌<◌, ◌≤◌, ℕ, [], Contains, IfOk, IfErr, IfNone, IfSome, Some, All, find, length, slice_index_or};
 ghost use Rattle.std.specs.Option.{option_map};
 ghost use Rattle.dw_frame.specs.Views.{cie_of, fde_of};
 ghost use Rattle.dw_rules.specs.RowExpressions.{row_expressions};
-ghost use Rattle.dw_rows.specs.Section.{IsChecked};
+ghost use Rattle.dw_rows.specs.Listing.{AreCounted, IsCounted, IsListed, not_counted};
 ghost use Rattle.dw_tables.specs.NumberedPrograms.{BeganWith};
 ghost use Rattle.dw_tables.specs.UnwindTables.{has, fde_bytes, all_rows_bytes};
-ghost use Rattle.dw_tables.specs.CompiledTable.{IsPushed, IsTableUpTo, IsClosedAt, IsBegunAt, IsFilled, ArePlacedRows, AreEntries, rows_to};
-ghost use Rattle.dw_tables.specs.CompiledTable.{IsSpanOf, LendsFound, found_with_expressions, LacksRoom, entry_bytes, stored_bytes};
+ghost use Rattle.dw_tables.specs.CompiledTable.{IsTableUpTo, IsClosedAt, IsBegunAt, IsFilled, AreAllRows, ArePlacedRows, AreEntries, HasFaulty, IsFaulty, rows_to};
+ghost use Rattle.dw_tables.specs.CompiledTable.{IsSpanOf, LendsFound, found_with_expressions, LacksRoom, stored_bytes};
 
 use crate::chosen_sets::ROW_ROOM;
+use crate::fde_rows::append_rows;
 use crate::numbered_program::NumberedProgram;
 use crate::rule_sets::RuleSets;
 use crate::table_entries::{EntrySpan, TableEntries, TableEntry};
 use crate::table_room::Unmade;
 use dw_frame::{CommonInformationEntry, FrameDescriptionEntry};
-use dw_rows::CheckedFrame;
+use dw_rows::{CheckedExpressions, CheckedFrame, ListedFrame, NOT_COUNTED};
 use dw_rules::{RowExpressions, UnwindRow, UnwindState};
-use std::alloc::Global;
+use std::alloc::{AllocError, Global};
 use std::marker::Model;
+
+/// Few sections have more than one row for this many bytes. A table that is filled while its section is
+/// checked begins with room for one row for each `ROW_BYTES`, so it rarely has to grow.
+const ROW_BYTES: usize = 4;
 
 /// A compiled table while it is being filled.
 #[derive(Drop)]
@@ -32,28 +37,6 @@ pub struct GrowingTable {
 }
 
 impl GrowingTable {
-    /// Appends an entry: from the address `start` on, the rules that are in force in the program
-    /// hold, and the return address register is the program's.
-    #[inline(always)]
-    fn push_row(&mut self, start: u64) -> Result<(), Unmade>
-        ensures pushed { IfOk result (λ _. IsPushed self.old.entries self.old.numbers.sets start
-            (record { rules = self.old.numbers.state.current; register = self.old.numbers.register })
-            self.new.entries self.new.numbers.sets) }
-        ensures stored { IfOk result (λ _.
-            stored_bytes self.new.entries self.new.numbers.sets + self.new.numbers.room
-            ≤ stored_bytes self.old.entries self.old.numbers.sets + self.old.numbers.room) }
-        ensures spent { IfOk result (λ _. self.old.numbers.room
-            ≤ self.new.numbers.room + entry_bytes self.old.numbers.state.current) }
-        ensures short { IfErr result (λ why.
-            LacksRoom why self.old.numbers.room (entry_bytes self.old.numbers.state.current)) }
-        ensures state { self.new.numbers.state ≡ self.old.numbers.state }
-        ensures register { self.new.numbers.register ≡ self.old.numbers.register }
-    {
-        let set = self.numbers.choose_current()?;
-        self.entries.push(TableEntry { start, set })?;
-        Ok(())
-    }
-
     /// Appends an entry without rules at `end`: no row covers the addresses from there on. If the
     /// table has no entries, none is appended.
     #[inline(always)]
@@ -101,94 +84,159 @@ impl GrowingTable {
     }
 }
 
-/// Appends the rows of one more FDE. The FDE must not begin below `table.end`, where the rows so
-/// far end. `last`, `near` and `spare` are those of `NumberedProgram::begin_fde`.
+/// How many rows an FDE has, if its program has no expressions, and the number isn't too large.
+#[inline(always)]
+fn rows_if_plain(checked: &CheckedExpressions<'_>, rows: usize) -> u32
+    ensures counted { result ≢ not_counted → (checked.now ≡ []) × (rows ≡ result) }
+    ensures plain { checked.now ≡ [] → rows < not_counted → result ≡ rows }
+{
+    if checked.count() > 0 {
+        return NOT_COUNTED;
+    }
+    u32::try_from(rows).unwrap_or(NOT_COUNTED)
+}
+
+/// Checks the program of one more FDE, and appends its rows. The FDE must not begin below `table.end`,
+/// where the rows so far end. `last`, `near` and `spare` are those of `NumberedProgram::begin_fde`, and
+/// `checked` may have any expressions. `None` if the program has a fault; then the table is of no use.
+/// Otherwise the result is how many rows the FDE has, or `NOT_COUNTED`.
 fn fill<'a>(
-    frame: &CheckedFrame<'a>,
+    frame: &ListedFrame<'a>,
     fde: &FrameDescriptionEntry<'a>,
     table: &mut GrowingTable,
     last: &mut Option<CommonInformationEntry<'a>>,
     near: &mut usize,
+    checked: &mut CheckedExpressions<'a>,
     spare: &mut UnwindState,
-) -> Result<(), Unmade>
-    requires checked { IsChecked frame.now }
+) -> Result<Option<u32>, Unmade>
+    requires listed { IsListed frame.now }
     requires among { Contains frame.now.fdes (fde_of fde.now) }
     requires last { IfSome last.old (λ cie. BeganWith frame.now table.old.numbers (cie_of cie)) }
     requires table { IsTableUpTo frame.now.expressions table.old.end
         table.old.entries table.old.numbers.sets }
     requires order { table.old.end ≤ fde.now.initial_location }
-    ensures filled { IfOk result (λ _. IsFilled frame.now (fde_of fde.now) table.old.end
-        table.old.entries table.old.numbers.sets table.new.entries table.new.numbers.sets) }
-    ensures end { IfOk result (λ _. table.new.end
-        ≡ fde.now.initial_location + fde.now.address_range) }
-    ensures last { IfOk result (λ _. IfSome last.new
-        (λ cie. BeganWith frame.now table.new.numbers (cie_of cie))) }
+    ensures filled { IfOk result (λ found. IfSome found (λ _. IsFilled frame.now (fde_of fde.now) table.old.end
+        table.old.entries table.old.numbers.sets table.new.entries table.new.numbers.sets)) }
+    ensures counted { IfOk result (λ found. IfSome found (λ rows. rows ≢ not_counted
+        → IsCounted frame.now.cies (fde_of fde.now) rows)) }
+    ensures refused { IfOk result (λ found. IfNone found (IsFaulty frame.now.cies (fde_of fde.now))) }
+    ensures end { IfOk result (λ found. IfSome found (λ _. table.new.end
+        ≡ fde.now.initial_location + fde.now.address_range)) }
+    ensures last { IfOk result (λ found. IfSome found (λ _. IfSome last.new
+        (λ cie. BeganWith frame.now table.new.numbers (cie_of cie)))) }
     ensures stored { IfOk result (λ _.
         stored_bytes table.new.entries table.new.numbers.sets + table.new.numbers.room
         ≤ stored_bytes table.old.entries table.old.numbers.sets + table.old.numbers.room) }
-    ensures spent { IfOk result (λ _. table.old.numbers.room
-        ≤ table.new.numbers.room + fde_bytes frame.now (fde_of fde.now)) }
+    ensures spent { IfOk result (λ found. IfSome found (λ _. table.old.numbers.room
+        ≤ table.new.numbers.room + fde_bytes frame.now (fde_of fde.now))) }
     ensures short { IfErr result (λ why. LacksRoom why table.old.numbers.room
         (fde_bytes frame.now (fde_of fde.now))) }
 {
     table.begin_at(fde.initial_location)?;
     let cie = table.numbers.begin_fde(frame, fde, last, near, spare)?;
-    let mut instructions = fde.program.instructions();
-    let limit = fde.initial_location + fde.address_range;
-    while let Some((start, _)) = table
-        .numbers
-        .next_row(&mut instructions, &cie, limit, spare)?
-    {
-        table.push_row(start)?;
+    checked.clear();
+    let before = table.entries.count();
+    let numbers = &mut table.numbers;
+    if !append_rows(&mut table.entries, numbers, checked, &cie, fde, spare)? {
+        return Ok(None);
     }
-    table.end = limit;
-    Ok(())
+    table.end = fde.initial_location + fde.address_range;
+    Ok(Some(rows_if_plain(checked, table.entries.count() - before)))
 }
 
-/// How many rows a section has, or `usize::MAX` if it has more.
-fn all_rows(frame: &CheckedFrame<'_>) -> usize {
-    usize::try_from(frame.row_count()).unwrap_or(usize::MAX)
-}
-
-/// How many entries a new table allocates: one for each row, one for the end of each FDE, and one
-/// more, but no more than `room` allows. A wrong number costs time or memory.
-fn most_entries(frame: &CheckedFrame<'_>, room: usize) -> usize {
-    all_rows(frame)
-        .saturating_add(frame.fdes().len())
+/// How many entries a new table allocates: about one for each row, one for the end of each FDE, and one
+/// more, but no more than `room` allows. A number that is too small costs time, and one that is too
+/// large costs memory.
+fn most_entries(frame: &ListedFrame<'_>, rows: usize, room: usize) -> usize {
+    rows.saturating_add(frame.fdes().len())
         .saturating_add(1)
         .min(room / ROW_ROOM)
 }
 
-/// Fills a table with the rows of all FDEs, in order of address.
-fn fill_all(alloc: Global, frame: &CheckedFrame<'_>, room: usize) -> Result<GrowingTable, Unmade>
-    ensures entries { IfOk result (λ table. AreEntries table.entries table.numbers.sets) }
-    ensures rows { IfOk result (λ table. ArePlacedRows frame.now
-        (rows_to table.numbers.sets table.entries 0)) }
-    ensures stored { IfOk result (λ table.
-        stored_bytes table.entries table.numbers.sets ≤ room) }
-    ensures short { IfErr result (λ why. LacksRoom why room (all_rows_bytes frame.now)) }
+/// An empty table for the rows of a section's FDEs, which have about `rows` rows.
+fn empty_table(
+    alloc: Global,
+    frame: &ListedFrame<'_>,
+    rows: usize,
+    room: usize,
+) -> Result<GrowingTable, AllocError>
+    ensures entries { IfOk result (λ table. table.entries ≡ []) }
+    ensures sets { IfOk result (λ table. table.numbers.sets ≡ []) }
+    ensures room { IfOk result (λ table. table.numbers.room ≡ room) }
+    ensures end { IfOk result (λ table. table.end ≡ 0) }
 {
     let base = match frame.index().first() {
         Some(first) => first.start,
         None => 0,
     };
-    let mut table = GrowingTable {
-        entries: TableEntries::with_capacity(alloc, base, most_entries(frame, room))?,
-        numbers: NumberedProgram::new(alloc, room, all_rows(frame))?,
+    Ok(GrowingTable {
+        entries: TableEntries::with_capacity(alloc, base, most_entries(frame, rows, room))?,
+        numbers: NumberedProgram::new(alloc, room, rows)?,
         end: 0,
-    };
+    })
+}
+
+/// Sets the number of rows at the index `place`, if `counted` has that index.
+#[inline(always)]
+fn count_rows(counted: &mut [u32], place: usize, rows: u32)
+    ensures length { length counted.new ≡ length counted.old }
+    ensures set { (d : ℕ) → place < length counted.old → slice_index_or counted.new place d ≡ rows }
+    ensures others { (k d : ℕ) → k ≢ place → slice_index_or counted.new k d ≡ slice_index_or counted.old k d }
+{
+    if place < counted.len() {
+        counted[place] = rows;
+    }
+}
+
+/// Checks the programs of all FDEs that cover addresses, in order of address, and fills a table with
+/// their rows. `None` if a program has a fault. `counted` gets the numbers of rows of FDEs, for as
+/// many as it has elements. `rows` is about how many rows there are; it affects time and memory.
+fn fill_all(
+    alloc: Global,
+    frame: &ListedFrame<'_>,
+    rows: usize,
+    room: usize,
+    counted: &mut [u32],
+) -> Result<Option<GrowingTable>, Unmade>
+    requires counted { AreCounted frame.now.cies frame.now.fdes counted.old }
+    ensures counted { IfOk result (λ _. AreCounted frame.now.cies frame.now.fdes counted.new) }
+    ensures length { length counted.new ≡ length counted.old }
+    ensures entries { IfOk result (λ made. IfSome made (λ table. AreEntries table.entries table.numbers.sets)) }
+    ensures rows { IfOk result (λ made. IfSome made (λ table. AreAllRows frame.now
+        (rows_to table.numbers.sets table.entries 0))) }
+    ensures refused { IfOk result (λ made. IfNone made (HasFaulty frame.now)) }
+    ensures stored { IfOk result (λ made. IfSome made (λ table.
+        stored_bytes table.entries table.numbers.sets + table.numbers.room ≤ room)) }
+    ensures spent { IfOk result (λ made. IfSome made (λ table. room
+        ≤ table.numbers.room + all_rows_bytes frame.now)) }
+    ensures short { IfErr result (λ why. LacksRoom why room (all_rows_bytes frame.now)) }
+{
+    let mut table = empty_table(alloc, frame, rows, room)?;
     let mut spare = UnwindState::new();
+    let mut checked = CheckedExpressions::new(alloc);
     let mut last = None;
     let mut near = 0;
     let fdes = frame.fdes();
     let index = frame.index();
     for entry in index {
         let fde = &fdes[entry.place];
-        fill(frame, fde, &mut table, &mut last, &mut near, &mut spare)?;
+        let Some(count) = fill(
+            frame,
+            fde,
+            &mut table,
+            &mut last,
+            &mut near,
+            &mut checked,
+            &mut spare,
+        )?
+        else {
+            return Ok(None);
+        };
+        count_rows(counted, entry.place, count);
     }
     table.close()?;
     table.entries.finish(alloc)?;
-    Ok(table)
+    Ok(Some(table))
 }
 
 /// All rows of a section in order of address, each with its return address register. The rules
@@ -254,11 +302,56 @@ impl StoredTable {
         ensures stored { IfOk result (λ table. table.bytes ≤ room) }
         ensures short { IfErr result (λ why. LacksRoom why room (all_rows_bytes frame.now)) }
     {
+        let rows = usize::try_from(frame.row_count()).unwrap_or(usize::MAX);
+        match fill_all(alloc, frame.listed(), rows, room, &mut [])? {
+            Some(table) => Ok(StoredTable::finish(table, alloc)?),
+            None => unreachable!(),
+        }
+    }
+
+    /// Checks the programs of a listed section's FDEs that cover addresses, and compiles their rows into
+    /// at most `room` bytes. `None` if a program has a fault. Otherwise the result is the table, and how
+    /// much of the room is left. `counted` is that of `fill_all`.
+    pub fn of_listed(
+        frame: &ListedFrame<'_>,
+        alloc: Global,
+        room: usize,
+        counted: &mut [u32],
+    ) -> Result<Option<(Self, usize)>, Unmade>
+        requires counted { AreCounted frame.now.cies frame.now.fdes counted.old }
+        ensures counted { IfOk result (λ _. AreCounted frame.now.cies frame.now.fdes counted.new) }
+        ensures length { length counted.new ≡ length counted.old }
+        ensures rows { IfOk result (λ made. IfSome made (λ found. AreAllRows frame.now found.0.rows)) }
+        ensures few { IfOk result (λ made. IfSome made (λ found. 16 * length found.0.rows ≤ found.0.bytes)) }
+        ensures stored { IfOk result (λ made. IfSome made (λ found. found.0.bytes + found.1 ≤ room)) }
+        ensures spent { IfOk result (λ made. IfSome made (λ found. room ≤ found.1 + all_rows_bytes frame.now)) }
+        ensures refused { IfOk result (λ made. IfNone made (HasFaulty frame.now)) }
+        ensures short { IfErr result (λ why. LacksRoom why room (all_rows_bytes frame.now)) }
+    {
+        let rows = frame.section().len() / ROW_BYTES;
+        match fill_all(alloc, frame, rows, room, counted)? {
+            Some(table) => {
+                let left = table.numbers.room();
+                Ok(Some((StoredTable::finish(table, alloc)?, left)))
+            }
+            None => Ok(None),
+        }
+    }
+
+    /// A table that has been filled.
+    fn finish(table: GrowingTable, alloc: Global) -> Result<Self, AllocError>
+        requires { AreEntries table.entries table.numbers.sets }
+        ensures rows { IfOk result (λ stored. stored.rows
+            ≡ rows_to table.numbers.sets table.entries 0) }
+        ensures few { IfOk result (λ stored. 16 * length stored.rows ≤ stored.bytes) }
+        ensures bytes { IfOk result (λ stored. stored.bytes
+            ≡ stored_bytes table.entries table.numbers.sets) }
+    {
         let GrowingTable {
             entries,
             numbers,
             ..
-        } = fill_all(alloc, frame, room)?;
+        } = table;
         Ok(StoredTable {
             entries,
             sets: numbers.into_sets(alloc)?,

@@ -1,10 +1,14 @@
 //! All rows of a checked section in order of address, compiled into a table that makes look-ups
 //! fast.
 
-ghost use Rattle.std.specs.Prelude.{◌≡◌, ◌+◌, ◌*◌, ◌≤◌, ◌<◌, IfOk, IfErr, IfSome, IfNone, Some, length};
+ghost use Rattle.std.specs.Prelude.{◌≡◌, ◌+◌, ◌*◌, ◌≤◌, ◌<◌, ◌⊎◌, List, IfOk, IfErr, IfSome, IfNone, Some, length};
 ghost use Rattle.std.specs.Option.{option_map};
 ghost use Rattle.std.specs.List.{sum_by};
 ghost use Rattle.dw_tables.specs.UnwindTables.{row_at, expression_bytes, table_bytes, IsTableOf};
+ghost use Rattle.dw_frame.specs.Records.{Cie, Fde};
+ghost use Rattle.dw_rules.specs.Expressions.{cie_expressions};
+ghost use Rattle.dw_rows.specs.Listing.{AreCounted};
+ghost use Rattle.dw_rows.specs.Section.{IsChecked};
 ghost use Rattle.dw_rows.specs.RowLookups.{IsRowUnder};
 ghost use Rattle.dw_tables.specs.CompiledTable.{LacksRoom};
 
@@ -12,10 +16,10 @@ use crate::expression_copies::copy_expressions;
 use crate::stored_table::StoredTable;
 use crate::table_entries::NO_HINT;
 use crate::table_room::Unmade;
-use dw_bytes::{Fault, OUT_OF_MEMORY, Target};
-use dw_rows::CheckedFrame;
+use dw_bytes::{Fault, FaultKind, OUT_OF_MEMORY, Target};
+use dw_rows::{CheckedFrame, NOT_COUNTED, UncheckedFrame};
 use dw_rules::{OwnedExpressions, RowExpressions, UnwindRow};
-use std::alloc::Global;
+use std::alloc::{AllocError, Global};
 use std::marker::Model;
 
 /// All rows of a checked section in order of address, each with its return address register.
@@ -62,6 +66,17 @@ impl Model for UnwindTable {
         × ((e : LocatedExpression) → Contains t.expressions e → IsUnder t.target e) };
 }
 
+/// For each of `count` FDEs: its rows aren't counted.
+fn none_counted(alloc: Global, count: usize) -> Result<Vec<u32>, AllocError>
+    ensures { IfOk result (λ counted. (cies : List Cie) (fdes : List Fde) → AreCounted cies fdes counted.items) }
+{
+    let mut counted = Vec::with_capacity(alloc, count)?;
+    for _ in 0..count {
+        counted.push(NOT_COUNTED)?;
+    }
+    Ok(counted)
+}
+
 impl UnwindTable {
     /// Compiles the rows of all FDEs of a checked section into a table, which makes millions of
     /// look-ups cheap. The table borrows nothing, so the section may be dropped.
@@ -73,8 +88,8 @@ impl UnwindTable {
     /// hold nothing else, except for 8 bytes, which are two counts of a look-up's search blocks, and
     /// for spare capacity, at most one element for 16 (this isn't proved). While the table is made,
     /// more memory is in use that isn't counted: the rule sets that the programs pass through, up
-    /// to 600 KB by which rule sets and steps are found again, spare capacity, and the copies that
-    /// arrays are cut to.
+    /// to 600 KB by which rule sets and steps are found again, spare capacity, and copies of the rule
+    /// sets and the expressions, which are cut to their size.
     ///
     /// `Ok(None)` means that the sum would be more than `room`, and that no table was made. The
     /// rows of a section of N bytes may take 700 times N bytes. The result is never `Ok(None)` if
@@ -126,6 +141,81 @@ impl UnwindTable {
             stored_table,
             expressions,
         })
+    }
+
+    /// Checks the programs of a listed section's FDEs while it compiles their rows, and returns the
+    /// checked section and its table. An FDE's program is run once, where `check_records` and then
+    /// `compile` run it twice; one with expressions is run twice here, too. `None` if a program has a
+    /// fault, or if the table may need more than `room` bytes; `check_records` and `compile` tell
+    /// which.
+    ///
+    /// `room` is that of `compile`. Time and memory are, too, but at first the table gets memory for
+    /// more entries than most sections have, 1.5 bytes for a byte of the section, and there are four
+    /// bytes more for each FDE. A section with a fault may take as much before the fault is found. The
+    /// only fault is `Memory`, with offset 0.
+    pub fn check_and_compile<'a>(
+        alloc: Global,
+        frame: UncheckedFrame<'a>,
+        room: usize,
+    ) -> Result<Option<(CheckedFrame<'a>, Self)>, Fault>
+        requires { frame.checked ≡ cie_expressions frame.listed.cies }
+        ensures frame { IfOk result (λ made. IfSome made (λ both. both.0 ≡ frame.entry.listed)) }
+        ensures checked { IfOk result (λ made. IfSome made (λ both. IsChecked frame.entry.listed)) }
+        ensures table { IfOk result (λ made. IfSome made (λ both. IsTableOf frame.entry.listed both.1)) }
+        ensures room { IfOk result
+            (λ made. IfSome made (λ both. 16 * length both.1.rows ≤ room)) }
+        ensures counted { IfOk result (λ made. IfSome made (λ both. 16 * length both.1.rows
+            + sum_by expression_bytes frame.entry.listed.expressions ≤ both.1.bytes)) }
+        ensures stored { IfOk result (λ made. IfSome made (λ both. both.1.bytes ≤ room)) }
+        ensures none { IfOk result (λ made. IfNone made ((room < table_bytes frame.entry.listed)
+            ⊎ (IsChecked frame.entry.listed → ⊥))) }
+        ensures memory { IfErr result (λ fault. fault ≡ OUT_OF_MEMORY) }
+    {
+        match UnwindTable::of_listed(frame, alloc, room) {
+            Ok(made) => Ok(made),
+            Err(Unmade::Room) => Ok(None),
+            Err(Unmade::Memory) => Err(OUT_OF_MEMORY),
+        }
+    }
+
+    /// Checks and compiles a listed section into a table that stores at most `room` bytes. The rows come
+    /// first, and the expressions may take what is left of the room.
+    fn of_listed<'a>(
+        frame: UncheckedFrame<'a>,
+        alloc: Global,
+        room: usize,
+    ) -> Result<Option<(CheckedFrame<'a>, Self)>, Unmade>
+        requires { frame.checked ≡ cie_expressions frame.listed.cies }
+        ensures frame { IfOk result (λ made. IfSome made (λ both. both.0 ≡ frame.entry.listed)) }
+        ensures checked { IfOk result (λ made. IfSome made (λ both. IsChecked frame.entry.listed)) }
+        ensures table { IfOk result (λ made. IfSome made (λ both. IsTableOf frame.entry.listed both.1)) }
+        ensures room { IfOk result
+            (λ made. IfSome made (λ both. 16 * length both.1.rows ≤ room)) }
+        ensures counted { IfOk result (λ made. IfSome made (λ both. 16 * length both.1.rows
+            + sum_by expression_bytes frame.entry.listed.expressions ≤ both.1.bytes)) }
+        ensures stored { IfOk result (λ made. IfSome made (λ both. both.1.bytes ≤ room)) }
+        ensures none { IfOk result (λ made. IfNone made (IsChecked frame.entry.listed → ⊥)) }
+        ensures short { IfErr result (λ why. LacksRoom why room (table_bytes frame.entry.listed)) }
+    {
+        let UncheckedFrame { listed, checked } = frame;
+        let mut counted = none_counted(alloc, listed.fdes().len())?;
+        let rows = StoredTable::of_listed(&listed, alloc, room, &mut counted)?;
+        let Some((stored_table, mut left)) = rows else {
+            return Ok(None);
+        };
+        let frame = match listed.into_checked(checked, &counted) {
+            Ok(frame) => frame,
+            Err(fault) if fault.kind == FaultKind::Memory => return Err(Unmade::Memory),
+            Err(_) => return Ok(None),
+        };
+        let expressions = copy_expressions(alloc, &frame.borrowed(), &mut left)?;
+        let target = frame.target();
+        let table = UnwindTable {
+            target,
+            stored_table,
+            expressions,
+        };
+        Ok(Some((frame, table)))
     }
 
     /// The target that the section was read with.

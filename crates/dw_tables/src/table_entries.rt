@@ -297,12 +297,12 @@ impl TableEntries {
         })
     }
 
-    /// Gives up most spare capacity (`Starts::cut`), and makes the blocks that speed up look-ups.
+    /// Gives back spare capacity, and makes the blocks that speed up look-ups.
     pub fn finish(&mut self, alloc: Global) -> Result<(), AllocError>
         ensures { self.new ≡ self.old }
     {
-        self.starts.cut(alloc)?;
-        self.sets.cut(alloc)?;
+        self.starts.cut();
+        self.sets.cut();
         let (_, offsets) = self.starts.near();
         self.blocks = blocks_of(alloc, offsets)?;
         Ok(())

@@ -1,6 +1,15 @@
-use Rattle.std.proofs.Common.{arith}
-use Rattle.dw_tables.proofs.CompiledTables.{rows-few}
+use Rattle.std.proofs.Common.{subst}
+use Rattle.dw_tables.specs.CompiledTable.{HasFaulty}
+use Rattle.dw_tables.proofs.CountedRows.{no-faulty}
+use Rattle.dw_tables.proofs.FilledTables.{placed-as}
 use Rattle.dw_tables.proofs.stored_table.StoredTable.of.Goals as goal
 
-pub returns-clause-few : goal.returns-clause-few
-returns-clause-few c = omega (arith, rows-few c.in_ok-into_sets.field-0 c.in_ok-entries.field-0.entries 0)
+pub unreachable-requires : goal.unreachable-requires
+unreachable-requires c =
+    no-faulty c.args.frame.now c.listed.ensures.checked
+    (subst HasFaulty c.listed.ensures.listed (rw c.in-None.is at c.in_ok-table.ensures.refused))
+
+pub returns-clause-rows : goal.returns-clause-rows
+returns-clause-rows c =
+    placed-as c.args.frame.now c.listed.result.now _ c.in_ok-finish-in-Some.field-0.rows c.listed.ensures.listed c.listed.ensures.checked
+    (rw c.in-Some.is at c.in_ok-table.ensures.rows) c.in_ok-finish-in-Some.ensures.rows
