@@ -1,13 +1,14 @@
 //! The check of an `.eh_frame` section.
 
-ghost use Rattle.std.specs.Prelude.{◌≡◌, ◌<◌, ◌≤◌, ◌^◌, ◌⊎◌, IfErr, IfOk, IfSome, None, Some, length};
+ghost use Rattle.std.specs.Prelude.{◌≡◌, ◌<◌, ◌≤◌, ◌^◌, ◌⊎◌, IfErr, IfNone, IfOk, IfSome, None, Some, length};
 ghost use Rattle.dw_bytes.specs.Answers.{Answers, memory};
+ghost use Rattle.dw_rules.specs.Expressions.{cie_expressions};
 ghost use Rattle.dw_rows.specs.Section.{IsChecked};
-ghost use Rattle.dw_eh_rows.specs.Section.{eh_frame_of, eh_section_fault};
+ghost use Rattle.dw_eh_rows.specs.Section.{AllAreGood, eh_frame_of, eh_section_fault};
 
 use dw_bytes::{Fault, FaultKind, OUT_OF_MEMORY, Target};
 use dw_eh_frame::{Bases, EhRecords, eh_records, eh_records_with_copies};
-use dw_rows::{CheckedFrame, check_records};
+use dw_rows::{CheckedFrame, UncheckedFrame, check_records, list_records};
 use std::alloc::Global;
 
 /// Checks a section as if no FDE were an exact copy: with all FDEs, as they are read. `Some` if it has
@@ -38,6 +39,41 @@ fn check_all_records<'a>(
         Err(fault) if fault.kind == FaultKind::Memory => Err(OUT_OF_MEMORY),
         Err(_) => Ok(None),
     }
+}
+
+/// Lists the records of a section of fewer than 2^32 bytes as if no FDE were an exact copy, and checks all
+/// but the programs of FDEs. If these have no fault, the section has none, and no copies either. `None`
+/// if a record can't be read, if the rest has a fault, or if two FDEs cover one address, as copies do:
+/// then `check_eh_frame` finds out more.
+#[tactic(auto, unfolding(crate::specs::Section::eh_section_fault))]
+pub fn list_eh_frame<'a>(
+    alloc: Global,
+    section: &'a [u8],
+    target: Target,
+    bases: Bases,
+    is_aarch64: bool,
+) -> Result<Option<UncheckedFrame<'a>>, Fault>
+    requires { length section.now < 2 ^ 32 }
+    ensures faultless { IfOk result (λ made. IfSome made (λ frame. IsChecked frame.listed
+        → eh_section_fault is_aarch64 bases target section.now ≡ None)) }
+    ensures frame { IfOk result (λ made. IfSome made (λ frame. IsChecked frame.listed
+        → frame.listed ≡ eh_frame_of is_aarch64 bases target section.now)) }
+    ensures expressions { IfOk result (λ made. IfSome made (λ frame. frame.checked
+        ≡ cie_expressions frame.listed.cies)) }
+    ensures none { IfOk result (λ made. IfNone made
+        (AllAreGood is_aarch64 bases target section.now → ⊥)) }
+    ensures lack { IfErr result (λ fault. fault ≡ memory) }
+{
+    dw_rows::laws::records_without_fault_are_good();
+    dw_eh_frame::laws::records_without_copies_are_kept();
+    let EhRecords { cies, fdes } = match eh_records_with_copies(
+        alloc, section, target, bases, is_aarch64,
+    ) {
+        Ok(records) => records,
+        Err(fault) if fault.kind == FaultKind::Memory => return Err(OUT_OF_MEMORY),
+        Err(_) => return Ok(None),
+    };
+    list_records(alloc, section, target, cies, fdes)
 }
 
 /// Checks a section of fewer than 2^32 bytes: that its records can be read, and that the CIE of

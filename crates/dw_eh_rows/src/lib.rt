@@ -9,7 +9,7 @@ mod short_range;
 mod signals;
 mod tally;
 
-pub use check::check_eh_frame;
+pub use check::{check_eh_frame, list_eh_frame};
 pub use counts::{SectionCounts, count_eh_frame, counts_of};
 pub use kept_records::{KeptRecords, LeftOutRecord, check_eh_frame_leaving_out};
 pub use signals::{SignalRange, cie_after, is_signal_address, signal_frames, signal_frames_of};
