@@ -5,7 +5,7 @@ ghost use Rattle.std.specs.Option.{option_map};
 ghost use Rattle.std.specs.Prelude.{◌==◌, ◌≡◌, ◌<◌, ◌^◌, All, IfErr, IfNone, IfOk, IfSome, Some, length};
 ghost use Rattle.dw_process.specs.BothSections.{AreAddedWith, AreRefusedWith};
 ghost use Rattle.dw_process.specs.ModuleMaps.{AreInOrder, IsPlaceFor, IsProper, module_at};
-ghost use Rattle.dw_process.specs.Processes.{AreDistinct, IsAdded, IsAddedWith, IsFoundIn, IsInserted, found_at, is_signal_in, is_signed_in, module_of, no_modules, removed};
+ghost use Rattle.dw_process.specs.Processes.{AreDistinct, IsAdded, IsAddedWith, IsFoundIn, IsInserted, IsStored, found_at, is_signal_in, is_signed_in, module_of, no_modules, removed};
 ghost use Rattle.dw_process.specs.Marks.{marks_of};
 ghost use Rattle.dw_process.specs.Refusals.{IsRefused, IsRefusedWith};
 
@@ -15,7 +15,7 @@ use crate::found_row::FoundRow;
 use crate::loaded_module::LoadedModule;
 use crate::module_map::ModuleMap;
 use crate::module_rows::ModuleRows;
-use crate::ready_module::{ReadyModule, prepare, prepare_both};
+use crate::ready_module::{CompiledFrame, ReadyModule, prepare, prepare_both, prepare_compiled};
 use crate::refusal::{BothRefusal, Refusal};
 use crate::row_cache::ProcessSlot;
 use crate::shared_marks::{FrameMarks, SharedMarks};
@@ -39,7 +39,7 @@ use std::marker::Model;
 pub struct Process {
     target: Target,
     next_id: u64,
-    modules: ModuleMap,
+    pub(crate) modules: ModuleMap,
 }
 
 impl Model for Process {
@@ -175,6 +175,36 @@ impl Process {
         ensures same { IfErr result (λ _. self.new ≡ self.old) }
     {
         let ready = prepare(alloc, &self.modules, frame, load_address, range, room)?;
+        match self.insert_ready(alloc, ready, marks, load_address, cookie) {
+            Some(id) => Ok(id),
+            None => Err(Refusal::Section(OUT_OF_MEMORY)),
+        }
+    }
+
+    /// Adds a module with the rows of a compiled section, and with these marks. The other arguments
+    /// are those of `add`.
+    pub(crate) fn add_compiled(
+        &mut self,
+        alloc: Global,
+        compiled: CompiledFrame<'_>,
+        marks: FrameMarks,
+        load_address: u64,
+        range: Option<AddressRange>,
+        cookie: u64,
+    ) -> Result<u64, Refusal>
+        requires target { compiled.frame.target ≡ self.old.target }
+        requires stored { IsStored compiled.frame compiled.room compiled.table }
+        ensures added { IfOk result
+            (λ id. IsAddedWith compiled.entry.frame (marks_of marks) load_address range cookie
+            compiled.entry.room self.old id self.new) }
+        ensures refused { IfErr result
+            (IsRefusedWith compiled.entry.frame load_address range compiled.entry.room self.old.modules) }
+        ensures same { IfErr result (λ _. self.new ≡ self.old) }
+    {
+        let ready = match prepare_compiled(alloc, &self.modules, compiled, load_address, range) {
+            Ok(ready) => ready,
+            Err(why) => return Err(why),
+        };
         match self.insert_ready(alloc, ready, marks, load_address, cookie) {
             Some(id) => Ok(id),
             None => Err(Refusal::Section(OUT_OF_MEMORY)),

@@ -9,7 +9,7 @@ ghost use Rattle.dw_process.specs.ModuleMaps.{IsProper};
 
 use crate::address_range::AddressRange;
 use dw_bytes::Target;
-use dw_rows::CheckedFrame;
+use dw_rows::{CheckedFrame, ListedFrame};
 use dw_unwind::as_linked;
 
 /// The smallest range that has all addresses of both ranges.
@@ -34,7 +34,7 @@ fn wider(range: Option<AddressRange>, other: AddressRange) -> AddressRange
 
 /// The addresses, as linked, from the first to the last one that an FDE covers; none if no FDE
 /// covers an address.
-fn linked_range(frame: &CheckedFrame<'_>) -> Option<AddressRange>
+fn linked_range(frame: &ListedFrame<'_>) -> Option<AddressRange>
     ensures span { MatchOption result (CoversNone frame.now.fdes) (IsSpanOf frame.now.fdes) }
     ensures fits { IfSome result (λ range. (range.first ≤ range.last)
         × (range.last < 2 ^ width_of frame.now.target.address_size)) }
@@ -62,8 +62,8 @@ fn linked_range_of_both(
     ensures fits { IfSome result (λ range. (range.first ≤ range.last)
         × (range.last < 2 ^ width_of debug_frame.now.target.address_size)) }
 {
-    let first = linked_range(debug_frame);
-    match linked_range(eh_frame) {
+    let first = linked_range(debug_frame.listed());
+    match linked_range(eh_frame.listed()) {
         Some(second) => Some(wider(first, second)),
         None => first,
     }
@@ -111,7 +111,7 @@ fn proper(target: Target, range: AddressRange) -> Option<AddressRange>
 /// first to the last one that an FDE covers. None if the range would be empty, pass the greatest
 /// address, or go on at address 0 after the greatest address.
 pub fn range_for(
-    frame: &CheckedFrame<'_>,
+    frame: &ListedFrame<'_>,
     load_address: u64,
     given: Option<AddressRange>,
 ) -> Option<AddressRange>
