@@ -14,7 +14,9 @@
 #                                                differences; for the sections and for accepted
 #                                                cases also compares the rows in compiled tables
 # Sections are raw and little-endian with addresses of 8 bytes: .debug_loclists if the name ends
-# with .lists, else .debug_frame. If the variable WORK names a folder, what is built stays there.
+# with .lists, else .debug_frame. `times` also takes .eh_frame sections, whose names end with
+# .eh_frame: it prints what the check takes with the table, beside the check alone. If the variable
+# WORK names a folder, what is built stays there.
 # This needs gcc, cargo and Debian's librust-gimli-dev and librust-object-dev.
 set -eu
 here=$(cd "$(dirname "$0")" && pwd)

@@ -8,7 +8,8 @@
 //!   beside read SECTION         lets only gimli read all rows and rules, or all entries of lists,
 //!                               and all expressions
 //! A SECTION is a raw, little-endian section with addresses of 8 bytes: `.debug_loclists` if its
-//! name ends with `.lists`, else `.debug_frame`.
+//! name ends with `.lists`, else `.debug_frame`. `times` also takes `.eh_frame` sections, whose names
+//! end with `.eh_frame`; of these both times are dwcheck's.
 
 mod cases;
 mod differ;

@@ -17,6 +17,8 @@ unsafe extern "C" {
     fn bench_look_up_by_table(section: Start, n: usize, addresses: *const u64, m: usize, times: u32) -> u64;
     fn bench_unwind_by_table(section: Start, n: usize, addresses: *const u64, m: usize, times: u32) -> u64;
     fn bench_table_answer(section: Start, n: usize, big: bool, small: bool, addresses: *const u64, m: usize) -> u64;
+    fn bench_check_eh_frame(section: Start, n: usize, section_address: u64) -> usize;
+    fn bench_compile_eh_frame(section: Start, n: usize, section_address: u64) -> usize;
     fn bench_look_up_in_place(
         bytes: Start,
         n: usize,
@@ -83,6 +85,17 @@ pub fn look_up(section: &[u8], addresses: &[u64], times: u32) -> u64 {
 /// Checks a section once; then finds the caller of the frame at each address, `times` times.
 pub fn unwind(section: &[u8], addresses: &[u64], times: u32) -> u64 {
     unsafe { bench_unwind(section.as_ptr(), section.len(), addresses.as_ptr(), addresses.len(), times) }
+}
+
+/// Checks the `.eh_frame` section at an address, and returns how many FDEs it has, or 0 if it is refused.
+pub fn check_eh_frame(section: &[u8], address: u64) -> usize {
+    unsafe { bench_check_eh_frame(section.as_ptr(), section.len(), address) }
+}
+
+/// Checks the `.eh_frame` section at an address and compiles its table, and returns how many FDEs the
+/// section has, or 0 if that can't be done with one run of each program.
+pub fn compile_eh_frame(section: &[u8], address: u64) -> usize {
+    unsafe { bench_compile_eh_frame(section.as_ptr(), section.len(), address) }
 }
 
 /// Checks a section and compiles its table, once; then looks up the row of each address, `times`

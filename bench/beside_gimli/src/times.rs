@@ -133,6 +133,20 @@ fn table(name: &str, bytes: &[u8], section: &theirs::Section<'_>, addresses: &[u
     println!("{name}: a table of {held} bytes, {:.2} of its section's {}", held as f64 / bytes.len() as f64, bytes.len());
 }
 
+/// Times the check of an `.eh_frame` section, and the check with the section's table. The section is taken
+/// to lie at an address of its own, so FDEs that are encoded relative to their places are where the file
+/// has them.
+fn eh_frame(name: &str, bytes: &[u8]) {
+    const ADDRESS: u64 = 1 << 30;
+    if ours::compile_eh_frame(bytes, ADDRESS) == 0 {
+        println!("{name}: refused, or it has copies of FDEs, or no FDE");
+        return;
+    }
+    let (compiled, check) =
+        least_of_both(25, || ours::compile_eh_frame(bytes, ADDRESS), || ours::check_eh_frame(bytes, ADDRESS));
+    line(&format!("{name}: check with its table; here the check alone"), compiled, Some(check));
+}
+
 fn lists(name: &str, bytes: &[u8]) {
     if ours::check_lists(bytes) == 0 {
         println!("{name}: refused, or it has no expression");
@@ -175,6 +189,8 @@ pub fn run(sections: &[(String, Vec<u8>)]) {
     for (name, bytes) in sections {
         if name.ends_with(".lists") {
             lists(name, bytes);
+        } else if name.ends_with(".eh_frame") {
+            eh_frame(name, bytes);
         } else {
             frame(name, bytes);
         }

@@ -3,6 +3,7 @@
 #![tactic(auto)]
 
 mod checksum;
+mod eh_frame;
 mod in_place;
 mod machine;
 mod meaning;
