@@ -9,7 +9,6 @@
 
 #include <errno.h>
 #include <pthread.h>
-#include <string.h>
 #include <sys/syscall.h>
 #include <sys/uio.h>
 #include <unistd.h>
@@ -56,12 +55,21 @@ bool dwcheck_dl_is_readable(uint64_t address) { return ask(address / PAGE) == RE
 
 bool dwcheck_dl_is_unreadable(uint64_t address) { return ask(address / PAGE) == UNREADABLE; }
 
+/* Any bytes may be there, also data that another thread is writing. Sanitizers would report that, though the bytes are only
+   compared. */
+__attribute__((no_sanitize("address", "thread"))) static bool are_there(const volatile uint8_t *place, const uint8_t *bytes,
+                                                                        size_t length) {
+    size_t count = 0;
+    while (count < length && place[count] == bytes[count]) count++;
+    return count == length;
+}
+
 /* Where it begins a page, the call before it may have been the last instruction of the module. */
 bool dwcheck_dl_is_code(uint64_t address, const void *code, size_t length) {
     const uint64_t last = address + length - 1;
     const bool is_first = address % PAGE == 0;
     if ((is_first || last / PAGE != address / PAGE) && !dwcheck_dl_is_readable(last)) return false;
-    return memcmp((const void *)(uintptr_t)address, code, length) == 0;
+    return are_there((const volatile uint8_t *)(uintptr_t)address, code, length);
 }
 
 /* How many pages from `page` on can be read, at most `most`. */
