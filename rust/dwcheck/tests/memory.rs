@@ -26,6 +26,7 @@ thread_local! {
 extern "C" {
     fn __libc_malloc(size: usize) -> *mut c_void;
     fn __libc_realloc(block: *mut c_void, size: usize) -> *mut c_void;
+    fn malloc_usable_size(block: *mut c_void) -> usize;
 }
 
 fn refuses() -> bool {
@@ -45,12 +46,16 @@ extern "C" fn malloc(size: usize) -> *mut c_void {
     unsafe { __libc_malloc(size) }
 }
 
+/// To make a block smaller takes no memory, and isn't refused.
+///
 /// # Safety
 ///
 /// The same as for C's `realloc`.
 #[no_mangle]
 unsafe extern "C" fn realloc(block: *mut c_void, size: usize) -> *mut c_void {
-    if refuses() {
+    // SAFETY: the caller promises that the block is one of the C library's, or null.
+    let is_smaller = !block.is_null() && size <= unsafe { malloc_usable_size(block) };
+    if !is_smaller && refuses() {
         return null_mut();
     }
     // SAFETY: the caller promises the same.
