@@ -24,11 +24,12 @@ void *malloc(size_t n) {
     given += (long)n;
     return counted(real(n));
 }
-void *realloc(void *p, size_t n) {
+void *realloc(void *p, size_t n) { /* to make a block smaller takes no memory, and doesn't fail */
     static void *(*real)(void *, size_t);
     if (!real) *(void **)&real = dlsym(RTLD_NEXT, "realloc");
     asked++;
-    if (until >= 0 && until-- == 0) return NULL;
+    const int is_smaller = p && n <= malloc_usable_size(p);
+    if (!is_smaller && until >= 0 && until-- == 0) return NULL;
     if (!p) __atomic_add_fetch(&held, 1, __ATOMIC_SEQ_CST);
     given += (long)n;
     long before = p ? (long)malloc_usable_size(p) : 0;
