@@ -99,7 +99,7 @@ pub(crate) fn prepare(connection: &mut Connection, may_create: bool) -> Result<(
     connection.busy_timeout(PATIENCE)?;
     // Without `trusted_schema`, what a hostile store defines calls no function.
     connection.execute_batch("PRAGMA trusted_schema = OFF; PRAGMA foreign_keys = ON; PRAGMA synchronous = NORMAL")?;
-    match identity_of(connection)? {
+    match identity_at_once(connection)? {
         Identity::Empty if may_create => create(connection),
         found => check_version(&found),
     }
@@ -112,6 +112,13 @@ fn check_version(identity: &Identity) -> Result<(), Problem> {
         Identity::Store(version) => Err(Problem::Newer(*version)),
         Identity::Empty | Identity::Other => Err(Problem::NotStore),
     }
+}
+
+/// What a database is, at one moment. Another process may be making the tables meanwhile: then what is read before and
+/// after that, put together, would look like the database of another program.
+fn identity_at_once(connection: &mut Connection) -> Result<Identity, Problem> {
+    let transaction = connection.transaction()?;
+    identity_of(&transaction)
 }
 
 fn identity_of(connection: &Connection) -> Result<Identity, Problem> {

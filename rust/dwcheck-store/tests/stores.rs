@@ -136,6 +136,21 @@ fn many_writers_of_a_new_store_lose_and_double_nothing() {
     assert_eq!(sqlite3(&path, counts), "90|90|180\n");
 }
 
+/// Whether a thread opens a store while another makes its tables is chance, so this is done often.
+#[test]
+fn those_who_open_a_new_store_at_once_all_open_it() {
+    let folder = Folder::new();
+    for number in 0..50 {
+        let path = folder.file(&number.to_string());
+        let open = &|| Store::open(&path).map(drop).unwrap();
+        thread::scope(|scope| {
+            (0..8).for_each(|_| {
+                scope.spawn(open);
+            });
+        });
+    }
+}
+
 #[test]
 fn a_changed_or_removed_file_is_forgotten_and_others_are_not() {
     let folder = Folder::new();
