@@ -7,7 +7,7 @@ use Rattle.dw_bytes.specs.Answers.{values_in}
 use Rattle.dw_rows.specs.Section.{CoversOnce, FrameSection, IsChecked, frame_with, parts_fault}
 use Rattle.dw_eh_frame.specs.Records.{all_in_dwarf, eh_reading_fault, eh_records_of}
 use Rattle.dw_eh_frame.specs.declared.pointer.Bases.{Bases}
-use Rattle.dw_eh_rows.specs.Section.{eh_frame_of, eh_section_fault}
+use Rattle.dw_eh_rows.specs.Section.{eh_frame_of, eh_frame_with_copies, eh_section_fault}
 use Rattle.dw_rows.specs.WellFormed.{AreGood}
 use Rattle.dw_eh_frame.specs.Copies.{AreDistinct, distinct}
 use Rattle.dw_eh_rows.proofs.Among.{record-fde}
@@ -39,9 +39,8 @@ pub record IsWhole (is_aarch64 : Bool) (bases : Bases) (target : Target) (sectio
 pub whole : CopyLaws → (is_aarch64 : Bool) (bases : Bases) (target : Target) (section : List ℕ)
     → ArePlaced target 0 (length section) (all_in_dwarf (values_in (eh_records_of is_aarch64 bases target section)))
     → eh_reading_fault is_aarch64 bases target section ≡ None
-    → IsChecked (frame_with target section (all_in_dwarf (values_in (eh_records_of is_aarch64 bases target section))))
-    → IsWhole is_aarch64 bases target section
-    (frame_with target section (all_in_dwarf (values_in (eh_records_of is_aarch64 bases target section))))
+    → IsChecked (eh_frame_with_copies is_aarch64 bases target section)
+    → IsWhole is_aarch64 bases target section (eh_frame_with_copies is_aarch64 bases target section)
 unfolding eh_section_fault
 whole laws is_aarch64 bases target section placed read checked =
     let records = all_in_dwarf (values_in (eh_records_of is_aarch64 bases target section)) in

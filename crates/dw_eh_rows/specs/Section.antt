@@ -9,7 +9,6 @@ use Rattle.dw_eh_frame.specs.declared.pointer.Bases.{Bases}
 use Rattle.dw_eh_frame.specs.Copies.{distinct, eh_frame_records}
 use Rattle.dw_eh_frame.specs.Encoding.{AreEhRecords}
 use Rattle.dw_bytes.specs.Answers.{values_in}
-use Rattle.dw_frame.specs.Records.{cies_among, fdes_among}
 use Rattle.dw_eh_frame.specs.Records.{EhRecord, eh_reading_fault, eh_records_of, all_in_dwarf}
 use Rattle.dw_rows.specs.Section.{FrameSection, frame_with, parts_fault}
 use Rattle.dw_rows.specs.WellFormed.{AreGood}
@@ -18,12 +17,17 @@ use Rattle.dw_rows.specs.WellFormed.{AreGood}
 abbrev pub eh_frame_of : Bool → Bases → Target → List ℕ → FrameSection
 eh_frame_of is_aarch64 bases target section = frame_with target section (eh_frame_records is_aarch64 bases target section)
 
+-- the section with all its CIEs and FDEs, exact copies of FDEs too
+abbrev pub eh_frame_with_copies : Bool → Bases → Target → List ℕ → FrameSection
+eh_frame_with_copies is_aarch64 bases target section =
+    frame_with target section (all_in_dwarf (values_in (eh_records_of is_aarch64 bases target section)))
+
 -- the section is read without a fault, and its records have none with all copies of FDEs
 abbrev pub AllAreGood : Bool → Bases → Target → List ℕ → Type 0
 AllAreGood is_aarch64 bases target section =
     (eh_reading_fault is_aarch64 bases target section ≡ None)
-    × (parts_fault (cies_among (all_in_dwarf (values_in (eh_records_of is_aarch64 bases target section))))
-    (fdes_among (all_in_dwarf (values_in (eh_records_of is_aarch64 bases target section)))) ≡ None)
+    × (parts_fault (eh_frame_with_copies is_aarch64 bases target section).cies
+    (eh_frame_with_copies is_aarch64 bases target section).fdes ≡ None)
 
 -- the first fault of a section: the first fault in reading its records, or else the first fault of
 -- the programs and the addresses of its CIEs and FDEs, in the order of `.debug_frame`

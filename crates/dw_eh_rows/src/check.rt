@@ -4,7 +4,8 @@ ghost use Rattle.std.specs.Prelude.{◌≡◌, ◌<◌, ◌≤◌, ◌^◌, ◌�
 ghost use Rattle.dw_bytes.specs.Answers.{Answers, memory};
 ghost use Rattle.dw_rules.specs.Expressions.{cie_expressions};
 ghost use Rattle.dw_rows.specs.Section.{IsChecked};
-ghost use Rattle.dw_eh_rows.specs.Section.{AllAreGood, eh_frame_of, eh_section_fault};
+ghost use Rattle.dw_eh_frame.specs.Records.{eh_reading_fault};
+ghost use Rattle.dw_eh_rows.specs.Section.{AllAreGood, eh_frame_of, eh_frame_with_copies, eh_section_fault};
 
 use dw_bytes::{Fault, FaultKind, OUT_OF_MEMORY, Target};
 use dw_eh_frame::{Bases, EhRecords, eh_records, eh_records_with_copies};
@@ -54,6 +55,10 @@ pub fn list_eh_frame<'a>(
     is_aarch64: bool,
 ) -> Result<Option<UncheckedFrame<'a>>, Fault>
     requires { length section.now < 2 ^ 32 }
+    ensures read { IfOk result (λ made. IfSome made
+        (λ _. eh_reading_fault is_aarch64 bases target section.now ≡ None)) }
+    ensures listed { IfOk result (λ made. IfSome made
+        (λ frame. frame.listed ≡ eh_frame_with_copies is_aarch64 bases target section.now)) }
     ensures faultless { IfOk result (λ made. IfSome made (λ frame. IsChecked frame.listed
         → eh_section_fault is_aarch64 bases target section.now ≡ None)) }
     ensures frame { IfOk result (λ made. IfSome made (λ frame. IsChecked frame.listed

@@ -5,7 +5,7 @@ use Rattle.dw_bytes.specs.declared.fault.Fault.{Fault}
 use Rattle.dw_bytes.specs.declared.fault.FaultKind.TheVariants.{Memory}
 use Rattle.dw_rows.specs.Section.{FrameSection, IsChecked}
 use Rattle.dw_rows.specs.declared.listed_frame.UncheckedFrame.{UncheckedFrame}
-use Rattle.dw_eh_frame.specs.Records.{all_in_dwarf, eh_records_of}
+use Rattle.dw_eh_frame.specs.Records.{all_in_dwarf, eh_reading_fault, eh_records_of}
 use Rattle.dw_frame.specs.Records.{Cie, Fde}
 use Rattle.dw_rows.specs.Section.{parts_fault}
 use Rattle.dw_eh_rows.specs.Section.{AllAreGood, eh_frame_of, eh_section_fault}
@@ -19,6 +19,20 @@ list_records-requires c = record {
   cies_are = c.in-Ok.ensures.cies;
   fdes_are = c.in-Ok.ensures.fdes;
 }
+
+-- what holds anyway holds if something was listed
+in-any-case : (P : Type 0) (r : Result (Option UncheckedFrame) Fault) → P → IfOk r (λ made. IfSome made (λ _. P))
+in-any-case P (Ok (Some frame)) p = p
+in-any-case P (Ok None) p = tt
+in-any-case P (Err fault) p = tt
+
+pub returns-clause-read : goal.returns-clause-read
+returns-clause-read c =
+    in-any-case (eh_reading_fault c.args.is_aarch64 c.args.bases c.args.target c.args.section.now ≡ None) c.list_records.result
+    c.in-Ok.ensures.answer
+
+pub returns-clause-listed : goal.returns-clause-listed
+returns-clause-listed c = rw (c.in-Ok.ensures.cies, c.in-Ok.ensures.fdes) at c.list_records.ensures.listed
 
 -- what holds of a section holds of what was listed of it
 of-listed : (Q : FrameSection → Type 0) (s : FrameSection) (r : Result (Option UncheckedFrame) Fault)
