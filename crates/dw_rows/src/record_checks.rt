@@ -106,6 +106,9 @@ fn rows_counted(counted: &[u32], place: usize) -> Option<u32>
 /// programs' expressions to `checked`, and returns how many rows all FDEs have together. Each
 /// CIE_pointer must be the offset of a CIE. FDEs that have a number of rows in `counted`, at the
 /// FDE's index, have been checked.
+///
+/// Inlined: for a section of which no FDE has been checked, that isn't looked up again for each.
+#[inline(always)]
 pub fn check_fdes<'a>(
     context: &mut UnwindContext,
     checked: &mut CheckedExpressions<'a>,
