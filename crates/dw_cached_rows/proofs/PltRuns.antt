@@ -8,7 +8,7 @@ use Rattle.dw_stack.specs.declared.state.Kind.TheVariants.{FrameCfa}
 use Rattle.dw_stack.specs.Machine.{Configuration, Step, Unreadable}
 use Rattle.dw_eval.specs.Numbers.{truth, twos_complement, wrap}
 use Rattle.dw_eval.specs.Meaning.{meaning_of}
-use Rattle.dw_eval.specs.Results.{Finishes, Fails, IsRun, Outcome}
+use Rattle.dw_eval.specs.Results.{IsRun}
 use Rattle.dw_eval.specs.Results as results
 use Rattle.dw_eval.specs.Values.{if_present, push}
 use Rattle.dw_cached_rows.specs.PackedRows.{plt_offset, plt_operations}

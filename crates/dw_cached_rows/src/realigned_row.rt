@@ -1,10 +1,9 @@
 //! The row of a stack that gcc has realigned, in 24 bytes.
 
-ghost use Rattle.std.specs.Prelude.{◌≡◌, ◌≢◌, IfSome, ℕ, false, true, length, negsuc};
+ghost use Rattle.std.specs.Prelude.{◌≡◌, IfSome, ℕ, false, true, negsuc};
 ghost use Rattle.std.specs.Bool.{OnFalse, OnTrue};
 ghost use Rattle.dw_rules.specs.Rules.{cfa_expression, default, offset, rule_in};
 ghost use Rattle.dw_rules.specs.Views.{cfa_rule_of, rule_of};
-ghost use Rattle.dw_stack.specs.Certificates.{checked_of};
 ghost use Rattle.dw_stack.specs.Located.{LocatedExpression, located_of};
 ghost use Rattle.dw_cached_rows.specs.PackedRows.{IsCoded, IsRealignedRowOf, IsSavedByRbp, address_operations, are_small, first_are_small, is_packed, is_saved_small, is_small, word_byte, word_operations};
 

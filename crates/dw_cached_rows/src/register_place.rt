@@ -1,11 +1,11 @@
 //! Where a walk is that gives registers: it keeps the stack pointer and the callee-saved registers.
 
-ghost use Rattle.std.specs.Prelude.{◌≡◌, ◌≢◌, ◌⊎◌, ◌+ℤ◌, ◌^◌, ◌<◌, ℕ, Some, None, Option, MatchOption, pos};
+ghost use Rattle.std.specs.Prelude.{◌≡◌, ◌≢◌, ◌⊎◌, ◌+ℤ◌, ◌^◌, ◌<◌, Some, None, Option, MatchOption, pos};
 ghost use Rattle.dw_eval.specs.Numbers.{wrap};
 ghost use Rattle.dw_rules.specs.Rules.{Row};
 ghost use Rattle.dw_unwind.specs.Walks.{Place};
-ghost use Rattle.dw_cached_rows.specs.PackedRows.{AreSmall, IsRealignedRowOf, IsRowOf, IsWalkedRowOf};
-ghost use Rattle.dw_cached_rows.specs.CachedWalks.{address_by, content_by_rbp, word_at};
+ghost use Rattle.dw_cached_rows.specs.PackedRows.{IsRealignedRowOf, IsRowOf, IsWalkedRowOf};
+ghost use Rattle.dw_cached_rows.specs.CachedWalks.{content_by_rbp};
 ghost use Rattle.dw_cached_rows.specs.RegisterWalks.{IsAfter, IsAfterBy, IsRegisterStep, IsWith, LacksOneBy, LacksRealigned, LacksSaved, LacksWord, NeedsOthers, content_after, register_in};
 ghost use Rattle.dw_cached_rows.specs.declared.register_place.RegisterStep.TheVariants as steps;
 

@@ -1,7 +1,7 @@
 //! Evaluates the expressions of a location list that apply at an address, and writes their
 //! outcomes.
 
-ghost use Rattle.std.specs.Prelude.{◌≡◌, ◌++◌, ◌∷◌, ◌<◌, ◌^◌, ℕ, List, false, length, codes};
+ghost use Rattle.std.specs.Prelude.{◌≡◌, ◌++◌, ◌<◌, ◌^◌, ℕ, List, false, length};
 ghost use Rattle.std.specs.List.{All};
 ghost use Rattle.dw_stack.specs.Certificates.{checked_of};
 ghost use Rattle.dw_loclists.specs.Reading.{IsChecked};
@@ -11,7 +11,7 @@ ghost use Rattle.dw_check.specs.Lookups.{IsShowable, AreEvaluated, ShowsLocation
 ghost use Rattle.dw_check.specs.Evaluations.{Evaluates};
 ghost use Rattle.dw_state.specs.StateFile.{StateFact, IsGivenBy};
 ghost use Rattle.dw_state.specs.StateViews.{known_state_of};
-ghost use Rattle.dw_check.specs.WriteResults.{IsSame, Writes, WritesWhole, is_write};
+ghost use Rattle.dw_check.specs.WriteResults.{IsSame, Writes, is_write};
 
 use crate::evaluations::write_outcome;
 use crate::lines::push_expression_offset;

@@ -1,6 +1,6 @@
 //! Writes the report on two accepted sections: what they hold, and a line for each expression.
 
-ghost use Rattle.std.specs.Prelude.{◌≡◌, ◌+◌, ◌++◌, ℕ, List, OnOk, false, length, map};
+ghost use Rattle.std.specs.Prelude.{◌≡◌, ◌+◌, ◌++◌, ℕ, List, OnOk, false, length};
 ghost use Rattle.std.specs.List.{flat_map};
 ghost use Rattle.std.specs.String.{string_bytes};
 ghost use Rattle.dw_stack.specs.Certificates.{checked_of};
@@ -9,7 +9,7 @@ ghost use Rattle.dw_loclists.specs.Reading.{tables_in, lists_in, located_in};
 ghost use Rattle.dw_check.specs.Report.{IsReport, AreLines, count_text, last_count_text, expressions_text, frame_counts_line};
 ghost use Rattle.dw_check.specs.Report.{lists_counts_line, frame_line, lists_line, summary_text, expression_kind_text, expression_line};
 ghost use Rattle.dw_check.specs.ReportViews.{line_of};
-ghost use Rattle.dw_check.specs.WriteResults.{IsSame, Writes, WritesWhole, is_write};
+ghost use Rattle.dw_check.specs.WriteResults.{IsSame, Writes, is_write};
 ghost use Rattle.dw_sections.specs.declared.section.Section.TheVariants as sections;
 
 use crate::numbers::{push_decimal, push_offset};

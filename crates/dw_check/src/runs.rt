@@ -12,7 +12,7 @@ ghost use Rattle.dw_unwind.specs.Modules.{unborrowed};
 ghost use Rattle.dw_state.specs.StateFile.{StateFact, IsGivenBy};
 ghost use Rattle.dw_state.specs.StateViews.{known_state_of};
 ghost use Rattle.dw_check.specs.Stops.{RefusesBoth, IsRefusal, ended_by, is_output};
-ghost use Rattle.dw_check.specs.WriteResults.{IsSame, Writes, WritesWhole, is_write};
+ghost use Rattle.dw_check.specs.WriteResults.{IsSame, Writes, is_write};
 ghost use Rattle.dw_sections.specs.declared.section.Section.TheVariants as sections;
 
 use crate::caller_text::write_caller;

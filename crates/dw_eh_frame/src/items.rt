@@ -1,6 +1,6 @@
 //! Reads on past a record that can't be read.
 
-ghost use Rattle.std.specs.Prelude.{◌≡◌, ◌<◌, ◌≤◌, ◌^◌, IfErr, IfOk, IfSome, length};
+ghost use Rattle.std.specs.Prelude.{◌<◌, ◌≤◌, ◌^◌, IfErr, IfOk, IfSome, length};
 ghost use Rattle.dw_bytes.specs.Reading.{section_from};
 ghost use Rattle.dw_bytes.specs.Readers.{ReadsFrom};
 ghost use Rattle.dw_eh_frame.specs.Items.{item_at, item_with};

@@ -1,6 +1,6 @@
 //! The inputs of an evaluation, and how operations read them.
 
-ghost use Rattle.std.specs.Prelude.{◌≡◌, ◌+◌, ◌+ℤ◌, ◌^◌, ◌<◌, ◌∷◌, [], pos, Ok};
+ghost use Rattle.std.specs.Prelude.{◌≡◌, ◌+◌, ◌+ℤ◌, ◌^◌, ◌<◌, pos, Ok};
 ghost use Rattle.dw_eval.specs.World.{IsSize, width};
 ghost use Rattle.dw_eval.specs.Values.{push, if_present, load_bytes};
 ghost use Rattle.dw_eval.specs.StackChanges.{one_of};

@@ -6,7 +6,7 @@ ghost use Rattle.dw_bytes.specs.Reading.{section_from};
 ghost use Rattle.dw_bytes.specs.Bodies.{framed_at};
 ghost use Rattle.dw_frame.specs.Sections.{record_at, record_from, records_of, cie_among};
 ghost use Rattle.dw_frame.specs.Headers.{head_of};
-ghost use Rattle.dw_frame.specs.Views.{reading_of, reading_from, dialect_of, record_of, found_cie};
+ghost use Rattle.dw_frame.specs.Views.{reading_of, dialect_of, record_of, found_cie};
 ghost use Rattle.dw_frame.specs.Dialects.{debug_frame};
 
 use crate::dialect::Dialect;

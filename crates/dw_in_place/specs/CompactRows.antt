@@ -1,5 +1,5 @@
 -- Look-ups in place of rows that are as compilers write nearly all rows.
-use Rattle.std.specs.Prelude.{◌≡◌, ℕ, List, [], Option, Some, None, Result, Ok}
+use Rattle.std.specs.Prelude.{◌≡◌, ℕ, [], Option, Some, None, Result, Ok}
 use Rattle.dw_bytes.specs.declared.fault.Fault.{Fault}
 use Rattle.dw_compact_rows.specs.CompactRuns.{row_of_compact, state_with}
 use Rattle.dw_compact_rows.specs.CompactRules.{stored_in}

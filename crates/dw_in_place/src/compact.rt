@@ -1,7 +1,7 @@
 //! The row of an address in place, if it is as compilers write nearly all rows: by one pass over the
 //! programs of its FDE and CIE, which takes little stack.
 
-ghost use Rattle.std.specs.Prelude.{ℕ, ◌≡◌, ◌≤◌, IfSome, length, Option, Result};
+ghost use Rattle.std.specs.Prelude.{ℕ, ◌≤◌, IfSome, length, Option, Result};
 ghost use Rattle.dw_bytes.specs.declared.fault.Fault.{Fault as Why};
 ghost use Rattle.dw_eh_frame.specs.Views.{eh_fde_of};
 ghost use Rattle.dw_rows.specs.Section.{Covers};

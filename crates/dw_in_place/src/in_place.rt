@@ -1,16 +1,13 @@
 //! The row of an address from one FDE and its CIE, which are read and checked in place.
 
-ghost use Rattle.std.specs.Prelude.{ℕ, ◌≡◌, ◌⊎◌, ◌≤◌, ◌<◌, ◌^◌, ◌↔◌, ◌++◌, [], Bool, false, List, length, take, drop, None, IsTrue, IsSome, IfOk, IfSome, OnErr, OnOk, MatchResult, Ok, Err, option_map};
-ghost use Rattle.dw_bytes.specs.Answers.{Answers, memory};
-ghost use Rattle.dw_frame.specs.Bounds.{Ascends};
+ghost use Rattle.std.specs.Prelude.{ℕ, ◌≡◌, ◌≤◌, ◌<◌, ◌↔◌, ◌++◌, Bool, false, List, length, None, IsTrue, IfOk, IfSome, OnOk, MatchResult, Ok, Err, option_map};
+ghost use Rattle.dw_bytes.specs.Answers.{Answers};
 ghost use Rattle.dw_bytes.specs.declared.target.Target.{Target as OfTarget};
 ghost use Rattle.dw_frame.specs.Views.{cie_of, fde_of};
-ghost use Rattle.dw_rules.specs.ExpressionOrder.{expression_offset};
 ghost use Rattle.dw_rules.specs.Expressions.{expressions_of};
-ghost use Rattle.dw_rules.specs.ProgramFault.{fde_fault, lacks_cfa};
+ghost use Rattle.dw_rules.specs.ProgramFault.{fde_fault};
 ghost use Rattle.dw_rules.specs.ProgramState.{IsLeftBy, row_between};
 ghost use Rattle.dw_rules.specs.RowsWithExpressions.{row_with_expressions};
-ghost use Rattle.dw_rules.specs.RuleSet.{LendsRules};
 ghost use Rattle.dw_rows.specs.Section.{Covers};
 ghost use Rattle.dw_eh_frame.specs.Views.{HasCieOf, IsCieOf, eh_cie_of, eh_fde_of, eh_record_of, fde_with_cie};
 ghost use Rattle.dw_eh_rows.specs.Signals.{fde_in};

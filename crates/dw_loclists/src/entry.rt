@@ -1,6 +1,6 @@
 //! Reads the entries of location lists.
 
-ghost use Rattle.std.specs.Prelude.{◌≡◌, ◌<◌, ◌≤◌, ◌+◌, nat_le, IfOk};
+ghost use Rattle.std.specs.Prelude.{◌≡◌, ◌<◌, ◌+◌, nat_le, IfOk};
 ghost use Rattle.dw_bytes.specs.Reading.{MovesForward};
 ghost use Rattle.dw_bytes.specs.Readers.{ParsesBy, IsRefusedWithin};
 ghost use Rattle.dw_loclists.specs.Reading.{entry_at};

@@ -1,6 +1,6 @@
 //! Binary search for the lists and expressions of a section.
 
-ghost use Rattle.std.specs.Prelude.{◌≡◌, ◌<◌, ℕ, Contains, length, map, MatchOption};
+ghost use Rattle.std.specs.Prelude.{◌≡◌, ◌<◌, Contains, map, MatchOption};
 ghost use Rattle.dw_loclists.specs.Bounds.{Ascends};
 ghost use Rattle.dw_bytes.specs.Operands.{block_of};
 ghost use Rattle.dw_loclists.specs.Locations.{location_of};

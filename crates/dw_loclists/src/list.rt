@@ -1,6 +1,6 @@
 //! Reads and checks location lists.
 
-ghost use Rattle.std.specs.Prelude.{◌≡◌, ◌⊎◌, ◌<◌, ◌≤◌, ◌+◌, [], ◌∷◌, ◌++◌, length, map, IfErr, IfOk, IfSome, OnOk, Ok, Err, None, Some};
+ghost use Rattle.std.specs.Prelude.{◌≡◌, ◌⊎◌, ◌<◌, ◌≤◌, ◌+◌, [], ◌∷◌, length, IfErr, IfOk, IfSome, OnOk, Ok, Err, None, Some};
 ghost use Rattle.std.specs.Prelude.{Bool, false, MatchBool, MatchOption, MatchResult};
 ghost use Rattle.dw_bytes.specs.Reading.{MovesForward};
 ghost use Rattle.dw_bytes.specs.Readers.{IsRefusedWithin};

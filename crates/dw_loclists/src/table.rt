@@ -1,6 +1,6 @@
 //! Reads and checks the tables of a `.debug_loclists` section.
 
-ghost use Rattle.std.specs.Prelude.{◌≡◌, ◌⊎◌, ◌<◌, ◌≤◌, ◌+◌, ◌^◌, ℕ, List, length, map, IfErr, IfOk, Ok, Err, MatchResult};
+ghost use Rattle.std.specs.Prelude.{◌≡◌, ◌⊎◌, ◌<◌, ◌≤◌, ◌+◌, ◌^◌, List, length, map, IfErr, IfOk, Ok, Err, MatchResult};
 ghost use Rattle.dw_bytes.specs.Reading.{MovesForward, ReadsPast, section_from};
 ghost use Rattle.dw_bytes.specs.Readers.{IsRefusedWithin, ParsesBy};
 ghost use Rattle.dw_bytes.specs.Answers.{memory};

@@ -4,7 +4,7 @@
 ghost use Rattle.std.specs.Prelude.{◌≡◌, IfOk, map, true, false};
 ghost use Rattle.clap.specs.Words.{with_subcommand, app_of, rule_of};
 ghost use Rattle.clap.specs.declared.builder.Command.TheViews.{out-Command as fields_of};
-ghost use Rattle.dw_requests.specs.Commands.{flag_rule, option_rule, list_rule, word_rule, with_flags, with_words, with_option};
+ghost use Rattle.dw_requests.specs.Commands.{flag_rule, option_rule, word_rule, with_flags, with_words, with_option};
 ghost use Rattle.dw_requests.specs.Commands.{with_options};
 ghost use Rattle.dw_requests.specs.Commands.{with_commands, app_of_command, dwcheck};
 ghost use Rattle.dw_requests.specs.CommandViews.{file_words, command_in};

@@ -1,6 +1,6 @@
 //! What a call frame instruction does, with the CIE's alignment factors applied to its operands.
 
-ghost use Rattle.std.specs.Prelude.{◌≡◌, ℤ, pos, ◌*◌, ◌*ℤ◌};
+ghost use Rattle.std.specs.Prelude.{◌≡◌, pos, ◌*◌, ◌*ℤ◌};
 ghost use Rattle.dw_frame.specs.Views.{cie_of, instruction_of};
 ghost use Rattle.dw_rules.specs.Effects.{effect_of};
 ghost use Rattle.dw_rules.specs.EffectViews.{effect_by};

@@ -1,6 +1,6 @@
 //! Checks a frame section and a section of location lists together.
 
-ghost use Rattle.std.specs.Prelude.{◌≡◌, ◌≤◌, ◌<◌, ◌^◌, ◌⊎◌, length, IfOk, IfErr, OnOk};
+ghost use Rattle.std.specs.Prelude.{◌≡◌, ◌≤◌, ◌<◌, ◌^◌, ◌⊎◌, length, IfOk, IfErr};
 ghost use Rattle.dw_bytes.specs.Answers.{memory};
 ghost use Rattle.dw_rows.specs.Section.{frame_of};
 ghost use Rattle.dw_sections.specs.Checked.{AreWellFormed, Checks, check_fault, fault_within, length_fault, bytes_within};

@@ -1,7 +1,6 @@
 //! Parses numbers and addresses.
 
 ghost use Rattle.std.specs.Prelude.{◌≡◌, ◌≤◌, ◌⊎◌, option_and_then};
-ghost use Rattle.dw_frame.specs.Sections.{top_of};
 ghost use Rattle.dw_state.specs.Addresses.{number_of, at_most, short_number, hex_up_to, address_of, offset_of};
 
 use dw_bytes::Target;

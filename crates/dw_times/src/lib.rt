@@ -11,7 +11,7 @@ mod reading_checksum;
 mod tables;
 mod walks;
 
-ghost use Rattle.std.specs.Prelude.{◌<◌, ◌^◌, length, Some, None};
+ghost use Rattle.std.specs.Prelude.{◌<◌, Some, None};
 
 use crate::machine::Known;
 use dw_bytes::{AddressSize, Order, Target};

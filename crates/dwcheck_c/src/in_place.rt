@@ -1,7 +1,7 @@
 //! The C calls that look up in an `.eh_frame` section in place: the row of an address, and a step
 //! of a cursor.
 
-ghost use Rattle.std.specs.Prelude.{◌≡◌, ◌≢◌, ◌≤◌, ◌<◌, ◌^◌, ◌⊎◌, ℕ, IfErr, IfNone, IfOk, IfSome, MatchResult, None, Ok, Err, Some, length, option_map};
+ghost use Rattle.std.specs.Prelude.{◌≡◌, ◌≢◌, ◌≤◌, ◌<◌, ◌⊎◌, ℕ, IfErr, IfNone, IfOk, IfSome, MatchResult, None, Ok, Err, Some, length, option_map};
 ghost use Rattle.dw_bytes.specs.declared.fault.Fault.{Fault as Why};
 ghost use Rattle.dw_bytes.specs.declared.fault.FaultKind.TheVariants.{Memory};
 ghost use Rattle.dw_bytes.specs.Answers.{memory as out_of_memory};

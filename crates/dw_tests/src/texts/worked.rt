@@ -1,6 +1,6 @@
 //! A test of the rows of docs/WORKED.md that `dwcheck` shows.
 
-ghost use Rattle.std.specs.Prelude.{◌≡◌, length};
+ghost use Rattle.std.specs.Prelude.{length};
 
 use crate::inputs::FUNCTION;
 use crate::texts::cases::{ROW_1, WORKED, asked, end_of, files_of, parts_of, text_of};

@@ -1,4 +1,3 @@
-use Rattle.std.proofs.Common.{refl}
 use Rattle.dw_frame.specs.Records.{cies_among, fdes_among}
 use Rattle.dw_frame.specs.Sections.{records_of}
 use Rattle.dw_rows.specs.Section.{IsChecked, frame_of}
