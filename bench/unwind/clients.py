@@ -44,7 +44,7 @@ def words_of(folder, **environment):
 def run(command, folder, **environment):
     """What a command prints, with our libraries if a folder is given."""
     done = subprocess.run(FIXED + words_of(folder, **environment) + command, stdout=subprocess.PIPE, stderr=subprocess.STDOUT, text=True,
-                          errors="replace", timeout=120, check=False)
+                          errors="replace", timeout=600, check=False)
     return done.stdout
 
 
@@ -129,15 +129,26 @@ def glog(folder, work):
     return [line.split(None, 2)[2] for line in text.splitlines() if re.match(r" +@ ", line)]
 
 
+EPOLL_WAIT = "232 "
+
+
+def waits_for_clients(server):
+    """Whether a process waits in epoll_wait."""
+    return pathlib.Path(f"/proc/{server.pid}/syscall").read_text(encoding="utf-8").startswith(EPOLL_WAIT)
+
+
 def xvfb(folder, work):
-    """The frames that the X server prints."""
-    with open(f"{work}/xvfb.log", "w+", encoding="utf-8") as log:
-        display = f":{os.getpid() % 50000 + 100}"
-        server = subprocess.Popen(FIXED + words_of(folder) + ["Xvfb", display, "-screen", "0", "640x480x8", "-nolisten", "tcp"],
-                                  stdout=log, stderr=log)
-        time.sleep(1.5)
+    """The frames that the X server prints. It writes its display when it has begun, and then waits for clients."""
+    display, written = os.pipe()
+    command = ["Xvfb", "-displayfd", str(written), "-screen", "0", "640x480x8", "-nolisten", "tcp"]
+    with open(f"{work}/xvfb.log", "w+", encoding="utf-8") as log, open(display, encoding="utf-8") as begun:
+        server = subprocess.Popen(FIXED + words_of(folder) + command, stdout=log, stderr=log, pass_fds=[written])
+        os.close(written)
+        begun.readline()
+        while not waits_for_clients(server):
+            time.sleep(0.05)
         server.send_signal(signal.SIGSEGV)
-        server.wait(20)
+        server.wait(600)
         log.seek(0)
         lines = re.findall(r"^\(EE\) (\d+: .*) \[0x", log.read(), re.MULTILINE)
         return [re.sub(r"(\d+: )\S*/", r"\1", line) for line in lines]
@@ -162,9 +173,10 @@ def gstreamer(folder, work):
 
 
 def calls_of(text):
-    """The system calls that strace shows, each by its name and its frames."""
+    """The system calls that strace shows, each by its name and its frames. Where a shell is when one of its children ends is
+    chance, and so is where it returns to from the signal."""
     calls = re.findall(r"^(\w+)\(.*\n((?: > .*\n)*)", text, re.MULTILINE)
-    return {name + ":" + frames.replace("\n", "") for name, frames in calls if frames}
+    return {name + ":" + frames.replace("\n", "") for name, frames in calls if frames and name != "rt_sigreturn"}
 
 
 def strace(folder, work):

@@ -44,6 +44,13 @@ by() { # ENGINE: runs the nightly job, and compares its export.
     [ "$(killed_workers "$folder/killed-$1")" -eq 4 ] && cmp "$folder/whole.jsonl" "$folder/$1/night.jsonl"
 }
 
+all_run() { # Whether none of what was started has ended.
+    local process
+    for process in "${started[@]}"; do
+        kill -0 "$process" 2> /dev/null || return
+    done
+}
+
 slurm_here() { # Starts slurmctld and slurmd of this machine alone, with no key.
     local name port
     name=$(hostname -s) port=$((20000 + RANDOM % 10000))
@@ -76,8 +83,9 @@ END
     started+=($!)
     /usr/sbin/slurmd -D > "$folder/slurmd.log" 2>&1 &
     started+=($!)
-    for _ in $(seq 60); do
+    for _ in $(seq 600); do
         sinfo --noheader --format %t 2> /dev/null | grep -q idle && return
+        all_run || break
         sleep 0.5
     done
     tail -n 20 "$folder/slurmctld.log" "$folder/slurmd.log"

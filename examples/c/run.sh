@@ -45,11 +45,15 @@ same_as_gdb() { # LEAST: the frames that an example printed are those that gdb p
     sed -n 's/^gdb \(0x[0-9a-f]*\)$/\1/p' "$out/gdb" | diff "$out/ours" - && [ "$(wc -l < "$out/ours")" -ge "$1" ]
 }
 
+until_it_waits() { # PROCESS: until it is in pause, if it doesn't end before. 34 is that call's number on x86-64.
+    while kill -0 "$1" && ! grep -q '^34 ' "/proc/$1/syscall"; do sleep 0.05; done
+}
+
 attached() { # the frames of a process that waits, beside gdb's
     "$out/waiting" &
     sleeper=$!
     trap 'kill "$sleeper"; rm -rf "$out"' EXIT
-    sleep 1 # until it has begun
+    until_it_waits "$sleeper"
     "$out/attach" $sleeper > "$out/frames" || return 1
     gdb -q -batch -ex "set backtrace past-main on" -x "$out/frames.py" -p $sleeper > "$out/gdb" 2>&1
     kill $sleeper
