@@ -32,7 +32,8 @@ sources() {
 apt() { # WORD..
     apt-get -o "Dir::State=$work/state" -o Dir::State::status=/dev/null -o "Dir::Cache=$work/cache" \
         -o "Dir::Etc::sourcelist=$work/sources.list" -o Dir::Etc::sourceparts=/dev/null \
-        -o APT::Architecture=arm64 -o APT::Architectures=arm64 -o APT::Sandbox::User=root "$@" >> "$work/log" 2>&1
+        -o APT::Architecture=arm64 -o APT::Architectures=arm64 -o APT::Sandbox::User=root -o Acquire::Retries=5 \
+        "$@" >> "$work/log" 2>&1
 }
 
 work=$(mktemp -d) || stop "there is no temporary folder"

@@ -57,8 +57,8 @@ install() { # GROUP..
     fi
     log=$(mktemp)
     # apt-get fetches all packages before it installs the first one.
-    if ! { $as_root apt-get -o APT::Update::Error-Mode=any update &&
-        $as_root env DEBIAN_FRONTEND=noninteractive apt-get install -y --no-install-recommends $packages; } \
+    if ! { $as_root apt-get -o Acquire::Retries=5 -o APT::Update::Error-Mode=any update &&
+        $as_root env DEBIAN_FRONTEND=noninteractive apt-get -o Acquire::Retries=5 install -y --no-install-recommends $packages; } \
         > "$log" 2>&1 < /dev/null; then
         stop "some packages can't be installed ($(grep -m 1 '^E: ' "$log" || echo "see $log")); with a network, run: $line"
     fi
