@@ -31,12 +31,13 @@ esac
 
 # Lists of sources of its own, since most systems have none.
 fetch() {
-    mkdir -p "$work/lists/partial" "$work/archives/partial" "$work/parts" "$work/source"
+    rm -rf "$work/unpacked" "$work/source"
+    mkdir -p "$work/lists/partial" "$work/archives/partial" "$work/parts" "$work/unpacked"
     sed -s 's/^Types: deb$/Types: deb-src/' /etc/apt/sources.list.d/debian*.sources > "$work/parts/debian.sources" 2> /dev/null
     sed -n 's/^deb /deb-src /p' /etc/apt/sources.list > "$work/parts/debian.list" 2> /dev/null
-    local options="-q -o Dir::Etc::SourceList=/dev/null -o Dir::Etc::SourceParts=$work/parts -o Dir::State::Lists=$work/lists -o Dir::Cache=$work"
+    local options="-q -o Acquire::Retries=5 -o Dir::Etc::SourceList=/dev/null -o Dir::Etc::SourceParts=$work/parts -o Dir::State::Lists=$work/lists -o Dir::Cache=$work"
     (cd "$work" && apt-get $options update && apt-get $options source --download-only libunwind) > "$work/fetch.log" 2>&1 &&
-        tar -C "$work/source" --strip-components=1 -xf "$work"/libunwind_*.orig.tar.*z
+        tar -C "$work/unpacked" --strip-components=1 -xf "$work"/libunwind_*.orig.tar.*z && mv "$work/unpacked" "$work/source"
 }
 
 # Compiles a test as libunwind's Makefile does, and links it to those of Debian's libraries that it needs.
@@ -62,9 +63,9 @@ run() { # LIBRARIES TEST WORD..: runs a test with the libraries of a folder, or 
     shift 2
     local path=${libraries:+LD_LIBRARY_PATH=$libraries}
     if [ "$arch" = aarch64 ]; then
-        timeout 300 $emulator ${path:+-E "$path"} "$work/$test" "$@" > "$work/$test.log" 2>&1
+        timeout 1800 $emulator ${path:+-E "$path"} "$work/$test" "$@" > "$work/$test.log" 2>&1
     else
-        env ${path:+"$path"} timeout 120 "$work/$test" "$@" > "$work/$test.log" 2>&1
+        env ${path:+"$path"} timeout 900 "$work/$test" "$@" > "$work/$test.log" 2>&1
     fi
 }
 
