@@ -10,8 +10,8 @@ use std::sync::Arc;
 use std::thread;
 use std::time::{Duration, Instant};
 
-/// How long the library waits, in seconds.
-const TIMEOUT: u64 = 2;
+/// How long the library waits, in seconds. All of the rest takes less, also on a busy machine.
+const TIMEOUT: u64 = 8;
 
 /// A server that sends an answer to each request, or nothing; and how often it was asked.
 fn server(answer: Option<&'static str>) -> (String, Arc<AtomicUsize>) {
@@ -59,11 +59,10 @@ fn a_server_costs_one_time_out_and_others_are_asked_even_so() {
     let path = client.find(Artifact::Executable, &[0xab; 20]).expect("the good server has it");
     assert_eq!(fs::read(&path).unwrap(), b"bytes");
     assert!(path.ends_with(format!("{}/executable", "ab".repeat(20))), "{:?}", path);
-    assert!(begin.elapsed() < Duration::from_secs(TIMEOUT + 2), "{:?}", begin.elapsed());
     for id in 1..4 {
         assert!(client.find(Artifact::DebugInfo, &[id; 20]).is_some());
     }
-    assert!(begin.elapsed() < Duration::from_secs(TIMEOUT + 3), "{:?}", begin.elapsed());
+    assert!(begin.elapsed() < Duration::from_secs(2 * TIMEOUT), "{:?}", begin.elapsed());
     assert_eq!((asked.load(Ordering::Relaxed), found.load(Ordering::Relaxed)), (1, 4));
     let problems = client.problems();
     assert_eq!(problems.len(), 2, "{:?}", problems);
