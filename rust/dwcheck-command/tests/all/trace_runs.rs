@@ -2,6 +2,7 @@
 
 use crate::common::run::dwcheck_elf;
 use crate::common::trace::{may_trace_programs, trace};
+use crate::common::waiting::comes_true;
 use crate::common::{has, Folder};
 use std::process::{Child, Command, Stdio};
 use std::time::{Duration, Instant};
@@ -46,15 +47,6 @@ impl Drop for Started {
         let _ = self.0.kill();
         let _ = self.0.wait();
     }
-}
-
-/// Waits at most ten seconds until something is so.
-fn comes_true(is_true: impl Fn() -> bool) -> bool {
-    let begin = Instant::now();
-    while !is_true() && begin.elapsed() < Duration::from_secs(10) {
-        std::thread::sleep(Duration::from_millis(20));
-    }
-    is_true()
 }
 
 /// A program may end before a process that it has made has run at all, as daemons do.

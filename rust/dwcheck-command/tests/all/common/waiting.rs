@@ -3,6 +3,16 @@
 use crate::common::Folder;
 use std::io::Read;
 use std::process::{Child, Command, Stdio};
+use std::time::{Duration, Instant};
+
+/// Waits at most a minute until something is so.
+pub fn comes_true(is_true: impl Fn() -> bool) -> bool {
+    let begin = Instant::now();
+    while !is_true() && begin.elapsed() < Duration::from_secs(60) {
+        std::thread::sleep(Duration::from_millis(20));
+    }
+    is_true()
+}
 
 /// The process of a program that has said that it is ready. It ends with the test.
 pub struct Waiting(Child);
