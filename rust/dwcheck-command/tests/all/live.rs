@@ -1,9 +1,9 @@
 //! Stacks of processes that run, beside those of eu-stack.
 
 use crate::common::run::{dwcheck_elf, Ran};
-use crate::common::waiting::Waiting;
+use crate::common::waiting::{comes_true, Waiting};
 use crate::common::{has, may_trace, Folder};
-use std::process::{Child, Command, Stdio};
+use std::process::{Command, Stdio};
 
 const WAITS: &str = "
 #define _GNU_SOURCE
@@ -24,7 +24,6 @@ int main(void) {
     pthread_barrier_init(&ready, NULL, 4);
     for (int i = 0; i < 3; i++) if (pthread_create(&thread, NULL, sorts, NULL) != 0) return 1;
     pthread_barrier_wait(&ready);
-    usleep(100000);
     puts(\"ready\");
     fflush(stdout);
     for (;;) pause();
@@ -70,7 +69,9 @@ fn a_handler_on_another_stack() {
         folder.run(&format!("gcc -O1 -DIN_THREAD={} waits.c -o waits -pthread", in_thread));
         let process = Waiting::start(&folder);
         let pid = process.id();
+        assert!(process.comes_to_pause());
         let ran = dwcheck_elf(&folder, &format!("stack --no-inline --no-source --pid {}", pid));
+        assert!(process.comes_to_pause());
         let theirs = folder.run(&format!("eu-stack -p {} 2> /dev/null || true", pid));
         assert_eq!(addresses(&ran.out), addresses(&theirs), "{}{}", ran.out, theirs);
         for name in [" handler+", " faulty", " run+", " main+"] {
@@ -79,24 +80,18 @@ fn a_handler_on_another_stack() {
     }
 }
 
-/// Has gdb trace a process.
-fn trace_by_gdb(process: &Waiting) -> Child {
+/// Has gdb trace all threads of a process. It waits for commands, and so ends with the test at the latest.
+fn trace_by_gdb(process: &Waiting) -> Waiting {
     let mut gdb = Command::new("gdb");
-    let gdb = gdb
-        .args(["-q", "--batch", "-p", &process.id().to_string(), "-ex", "shell sleep 5"])
-        .stdout(Stdio::null())
-        .stderr(Stdio::null())
-        .stdin(Stdio::null())
-        .spawn()
-        .unwrap();
-    while process.state() != 't' {
-        std::thread::sleep(std::time::Duration::from_millis(10));
-    }
+    let gdb = gdb.args(["-q", "-p", &process.id().to_string()]).stdin(Stdio::piped());
+    let gdb = Waiting(gdb.stdout(Stdio::null()).stderr(Stdio::null()).spawn().unwrap());
+    let tracer = format!("\nTracerPid:\t{}\n", gdb.id());
+    assert!(comes_true(|| process.is_of_each_thread("status", |text| text.contains(&tracer))));
     gdb
 }
 
 /// The stacks of a process are those of eu-stack, also after its file was removed. The process goes
-/// on. A process that another program traces is left alone.
+/// on.
 #[test]
 fn a_process_that_waits() {
     let folder = Folder::new("live");
@@ -107,8 +102,12 @@ fn a_process_that_waits() {
     folder.run("gcc -O1 -pthread waits.c -o waits");
     let process = Waiting::start(&folder);
     let pid = process.id();
-    let ran = dwcheck_elf(&folder, &format!("stack --no-inline --no-source --pid {}", pid));
-    assert_eq!((ran.status, ran.error.as_str(), process.state()), (0, "", 'S'), "{}", ran.out);
+    let stack = |more: &str| {
+        assert!(process.comes_to_pause());
+        dwcheck_elf(&folder, &format!("stack --no-inline --no-source --pid {}{}", pid, more))
+    };
+    let ran = stack("");
+    assert_eq!((ran.status, ran.error.as_str(), process.comes_to_pause()), (0, "", true), "{}", ran.out);
     let theirs = folder.run(&format!("eu-stack -p {} 2> /dev/null || true", pid));
     assert_eq!(addresses(&ran.out), addresses(&theirs), "{}{}", ran.out, theirs);
     assert!(
@@ -116,21 +115,33 @@ fn a_process_that_waits() {
         "{}",
         ran.out
     );
-    let group = dwcheck_elf(&folder, &format!("stack --no-inline --no-source --group --pid {}", pid));
+    let group = stack(" --group");
     assert_eq!(group.out.matches("\nthreads ").count() + group.out.matches("thread ").count(), 2, "{}", group.out);
-    let one = dwcheck_elf(&folder, &format!("stack --no-inline --no-source --pid {0} --tid {0}", pid));
+    let one = stack(&format!(" --tid {}", pid));
     assert_eq!(one.out, ran.out[..ran.out.find("stop: return undefined\n").unwrap() + 23]);
     std::fs::remove_file(folder.file("waits")).unwrap();
-    let removed = dwcheck_elf(&folder, &format!("stack --no-inline --no-source --pid {}", pid));
+    let removed = stack("");
     assert_eq!(removed.out.replace(" (deleted)", ""), ran.out, "{}", removed.error);
-    let mut gdb = trace_by_gdb(&process);
+}
+
+/// A process that another program traces is left alone.
+#[test]
+fn a_process_that_is_traced_and_ends() {
+    let folder = Folder::new("live-traced");
+    if !may_trace() {
+        return;
+    }
+    folder.write("waits.c", WAITS);
+    folder.run("gcc -O1 -pthread waits.c -o waits");
+    let process = Waiting::start(&folder);
+    let pid = process.id();
+    let gdb = trace_by_gdb(&process);
     let traced = dwcheck_elf(&folder, &format!("stack --pid {}", pid));
     assert_eq!(
         (traced.status, traced.error),
         (3, format!("dwcheck-elf: process {}: the process {} traces it already\n", pid, gdb.id()))
     );
-    gdb.kill().unwrap();
-    gdb.wait().unwrap();
+    drop(gdb);
     drop(process);
     let ended = dwcheck_elf(&folder, &format!("stack --pid {}", pid));
     assert_eq!(
@@ -140,7 +151,7 @@ fn a_process_that_waits() {
 }
 
 /// A program in which a thread, a file's data and the heap have other values than at the start. The dynamic linker
-/// has made the memory of `names` read-only once it had stored addresses there.
+/// has made the memory of `names` read-only once it had stored addresses there. The thread that comes last is ready.
 const CHANGES: &str = "
 #include <pthread.h>
 #include <stdio.h>
@@ -149,13 +160,13 @@ const CHANGES: &str = "
 #include <unistd.h>
 static char text[] = \"before\";
 __attribute__((noinline)) static void work(int n) {
-    static int initial = 5, zero;
+    static int initial = 5, zero, threads;
     static __thread int own = 40;
     static const char *const names[2] = {\"a name\", \"another\"};
     const char *shown = text, *copied = strdup(\"in the heap\");
-    initial += n, zero -= n, own += n;
+    __atomic_add_fetch(&initial, n, __ATOMIC_SEQ_CST), __atomic_sub_fetch(&zero, n, __ATOMIC_SEQ_CST), own += n;
     memcpy(text, \"after!\", 6);
-    if (n == 2) { puts(\"ready\"); fflush(stdout); }
+    if (__atomic_add_fetch(&threads, 1, __ATOMIC_SEQ_CST) == 2) { puts(\"ready\"); fflush(stdout); }
     if (n > 2) puts(names[n]);
     for (;;) pause();
 }
@@ -195,9 +206,10 @@ fn variables_of_a_process() {
         let line = ran.lines().into_iter().find(|line| line.contains(" work+")).unwrap_or_else(|| panic!("{:?}", ran));
         line[1..line.find(' ').unwrap()].to_string()
     };
+    assert!(process.comes_to_pause());
     let stack = dwcheck_elf(&folder, &format!("stack --no-source --pid {}", pid));
     let first = dwcheck_elf(&folder, &format!("vars --pid {} --frame {}", pid, frame(&stack)));
-    assert_eq!((first.status, first.error.as_str(), process.state()), (0, "", 'S'), "{}", first.out);
+    assert_eq!((first.status, first.error.as_str(), process.comes_to_pause()), (0, "", true), "{}", first.out);
     has_values_of(1, &first);
     let tasks = std::fs::read_dir(format!("/proc/{}/task", pid)).unwrap();
     let tids = tasks.map(|task| task.unwrap().file_name().into_string().unwrap());

@@ -14,16 +14,16 @@ pub fn comes_true(is_true: impl Fn() -> bool) -> bool {
     is_true()
 }
 
-/// The process of a program that has said that it is ready. It ends with the test.
-pub struct Waiting(Child);
+/// A process that ends with the test.
+pub struct Waiting(pub Child);
 
 impl Waiting {
     /// Starts the program `waits` of a folder, and waits for its line `ready`.
     pub fn start(folder: &Folder) -> Waiting {
-        let mut child = Command::new(folder.file("waits")).stdout(Stdio::piped()).spawn().unwrap();
+        let mut process = Waiting(Command::new(folder.file("waits")).stdout(Stdio::piped()).spawn().unwrap());
         let mut said = [0; 6];
-        child.stdout.as_mut().unwrap().read_exact(&mut said).unwrap();
-        Waiting(child)
+        process.0.stdout.as_mut().unwrap().read_exact(&mut said).unwrap();
+        process
     }
 
     /// Its number.
@@ -31,11 +31,22 @@ impl Waiting {
         self.0.id()
     }
 
-    /// The letter that says what the process does, such as S if it sleeps.
-    pub fn state(&self) -> char {
-        let status = std::fs::read_to_string(format!("/proc/{}/status", self.0.id())).unwrap();
-        let state = status.lines().find_map(|line| line.strip_prefix("State:")).unwrap();
-        state.trim().chars().next().unwrap()
+    /// Waits until each thread sleeps in pause(). It gets there only after it has said that it is ready, and again after a
+    /// tracer has let it go.
+    pub fn comes_to_pause(&self) -> bool {
+        /// The number of pause() on x86-64, in decimal.
+        const PAUSE: &str = "34 ";
+        comes_true(|| {
+            self.is_of_each_thread("syscall", |text| text.starts_with(PAUSE))
+                && self.is_of_each_thread("status", |text| text.contains("\nState:\tS"))
+        })
+    }
+
+    /// Whether something is so of a file in /proc about each thread.
+    pub fn is_of_each_thread(&self, file: &str, is_so: impl Fn(&str) -> bool) -> bool {
+        let threads = std::fs::read_dir(format!("/proc/{}/task", self.id())).unwrap();
+        let mut texts = threads.map(|thread| std::fs::read_to_string(thread.unwrap().path().join(file)).unwrap());
+        texts.all(|text| is_so(&text))
     }
 }
 
