@@ -8,7 +8,7 @@ use dwcheck_elf::core_file::{CoreFile, Files};
 use std::path::Path;
 
 /// Each rule by which a frame is found: `bare` and `framed` have no rows, and only `framed` has a frame pointer. The handler
-/// returns to `returns`, which has no rows either.
+/// returns to `returns`, which has no rows either. `bare` itself says that it is ready, so that it is where the process is.
 const PROGRAM: &str = r#"
 #include <signal.h>
 #include <stdio.h>
@@ -17,13 +17,15 @@ const PROGRAM: &str = r#"
 struct action { void (*handler)(int); unsigned long flags; void (*restorer)(void); unsigned long long mask; };
 void framed(void);
 void returns(void);
+const char ready[] = "ready\n";
 asm(".text\n.balign 16\n.type bare, @function\n"
-    "bare: pause\n jmp bare\n.size bare, . - bare\n"
+    "bare: mov $1, %eax\n mov $1, %edi\n lea ready(%rip), %rsi\n mov $6, %edx\n syscall\n"
+    "0: pause\n jmp 0b\n.size bare, . - bare\n"
     ".balign 16\n.globl framed\n.type framed, @function\n"
     "framed: push %rbp\n mov %rsp, %rbp\n sub $32, %rsp\n call bare\n leave\n ret\n.size framed, . - framed\n"
     ".balign 16\n.globl returns\n.type returns, @function\n"
     " nop\nreturns: mov $15, %eax\n syscall\n.size returns, . - returns\n");
-__attribute__((noinline)) static void handler(int n) { if (n) puts("ready"); fflush(stdout); framed(); puts("never"); }
+__attribute__((noinline)) static void handler(int n) { if (n) framed(); puts("never"); }
 __attribute__((noinline)) static int interrupted(int signal) { return syscall(SYS_tgkill, getpid(), getpid(), signal) + 1; }
 int main(void) {
     struct action action = { handler, 0x04000000 /* SA_RESTORER */, returns, 0 };
