@@ -348,5 +348,6 @@ fn messages_command_lines_and_senders() {
     let json = document();
     let sender = &json["signal"]["sender"];
     assert_eq!(sent, format!("{} of user {}", sender["pid"], sender["uid"]));
-    assert!(sender["pid"].as_u64() > json["pid"].as_u64() && json["abort_message"].is_null(), "{}", json["signal"]);
+    // Not always a higher one, since ids begin again after the highest one.
+    assert!(sender["pid"] != json["pid"] && json["abort_message"].is_null(), "{}", json["signal"]);
 }

@@ -30,9 +30,20 @@ int main(void) {
 }
 ";
 
-fn addresses(out: &str) -> Vec<String> {
-    let words = out.lines().filter(|line| line.starts_with('#') || line.to_lowercase().starts_with('t'));
-    words.map(|line| line.split_whitespace().nth(1).unwrap().trim_matches(':').to_string()).collect()
+/// The id of each thread and the addresses of its frames. They are sorted, since eu-stack has the threads in the order
+/// in which they were made, and a later one may have a lower id.
+fn addresses(out: &str) -> Vec<Vec<String>> {
+    let mut threads = Vec::new();
+    for line in out.lines() {
+        let word = || line.split_whitespace().nth(1).unwrap().trim_matches(':').to_string();
+        if line.to_lowercase().starts_with('t') {
+            threads.push(vec![word()]);
+        } else if line.starts_with('#') {
+            threads.last_mut().unwrap().push(word());
+        }
+    }
+    threads.sort();
+    threads
 }
 
 const HANDLES: &str = "
@@ -116,9 +127,10 @@ fn a_process_that_waits() {
         ran.out
     );
     let group = stack(" --group");
-    assert_eq!(group.out.matches("\nthreads ").count() + group.out.matches("thread ").count(), 2, "{}", group.out);
-    let one = stack(&format!(" --tid {}", pid));
-    assert_eq!(one.out, ran.out[..ran.out.find("stop: return undefined\n").unwrap() + 23]);
+    assert_eq!(group.out.matches("threads ").count() + group.out.matches("thread ").count(), 2, "{}", group.out);
+    let of_first = &ran.out[ran.out.find(&format!("thread {} ", pid)).unwrap()..];
+    let end = of_first.find("stop: return undefined\n").unwrap() + 23;
+    assert_eq!(stack(&format!(" --tid {}", pid)).out, of_first[..end]);
     std::fs::remove_file(folder.file("waits")).unwrap();
     let removed = stack("");
     assert_eq!(removed.out.replace(" (deleted)", ""), ran.out, "{}", removed.error);
