@@ -3,9 +3,12 @@
 
 use crate::common::cores::{addresses, by_gdb, frames};
 use crate::common::run::{dwcheck_elf, Ran};
+use crate::common::waiting::{comes_true, Waiting};
 use crate::common::{may_trace, Folder};
 use serde_json::Value;
 use std::os::unix::fs::PermissionsExt;
+use std::path::Path;
+use std::process::{Command, Stdio};
 
 const PROGRAM: &str = "
 #include <assert.h>
@@ -170,29 +173,56 @@ fn streams_that_end_too_early() {
     }
 }
 
-/// One process has one handler. A handler whose core file doesn't come ends at its limit, and says so.
+/// Starts a program that sleeps, and waits until the process has its name: a new process has that of the test at first.
+fn sleeper(program: impl AsRef<Path>) -> Waiting {
+    let program = program.as_ref();
+    let process = Waiting(Command::new(program).arg("600").spawn().unwrap());
+    let name = format!("{}\n", program.file_name().unwrap().to_str().unwrap());
+    let comm = format!("/proc/{}/comm", process.id());
+    assert!(comes_true(|| std::fs::read_to_string(&comm).unwrap() == name), "{:?}", program);
+    process
+}
+
+/// One process has one handler.
 #[test]
-fn a_handler_is_alone_and_ends() {
+fn a_handler_is_alone() {
     let folder = Folder::new("handler-alone");
     if !may_trace() {
         return;
     }
-    let handler = format!("{} stack --time-limit 5 --handler $p", env!("CARGO_BIN_EXE_dwcheck-elf"));
-    let script = format!(
-        "sleep 60 & p=$!; ({0} < <(sleep 30 2> /dev/null) > first 2> error; echo $? > status) & sleep 2; {0} < /dev/null > second 2>&1; \
-         second=$?; begun=$SECONDS; while [ ! -s status ]; do sleep 0.1; done; kill $p; \
-         echo $second $(cat status) $((SECONDS - begun < 20))",
-        handler
-    );
-    assert_eq!(folder.run(&script), "3 3 1\n");
-    let text = |name: &str| String::from_utf8_lossy(&folder.bytes(name)).into_owned();
-    assert!(text("second").ends_with(": another handler works on it\n"), "{}", text("second"));
-    assert!(text("first").contains("\"sleep\" of user "), "{}", text("first"));
-    assert!(
-        text("first").ends_with("the report isn't whole: it takes more time than its limit, 5 s\n"),
-        "{}",
-        text("first")
-    );
+    let process = sleeper("sleep");
+    let words = format!("stack {} --handler {}", PATIENT, process.id());
+    let mut first = Command::new(env!("CARGO_BIN_EXE_dwcheck-elf"));
+    // Until the test ends, its core file neither comes nor ends.
+    let first = first.args(words.split(' ')).stdin(Stdio::piped()).stdout(Stdio::null()).stderr(Stdio::null());
+    let first = Waiting(first.spawn().unwrap());
+    // The process that does its work is made once no other handler can come.
+    let children = format!("/proc/{0}/task/{0}/children", first.id());
+    assert!(comes_true(|| !std::fs::read_to_string(&children).unwrap().is_empty()));
+    let second = dwcheck_elf(&folder, &words);
+    assert_eq!(second.status, 3, "{}", second.out);
+    assert!(second.error.ends_with(": another handler works on it\n"), "{}", second.error);
+}
+
+/// A handler whose core file doesn't come ends at its limit, and says so.
+#[test]
+fn a_handler_ends() {
+    if !may_trace() {
+        return;
+    }
+    let process = sleeper("sleep");
+    let id = process.id().to_string();
+    let mut handler = Command::new("timeout");
+    handler.args(["60", env!("CARGO_BIN_EXE_dwcheck-elf"), "stack", "--time-limit", "5", "--handler", &id]);
+    let mut handler = handler.stdin(Stdio::piped()).stdout(Stdio::piped()).stderr(Stdio::null()).spawn().unwrap();
+    // It is kept open, since the core file would end with it.
+    let core = handler.stdin.take();
+    let ran = handler.wait_with_output().unwrap();
+    drop(core);
+    let out = String::from_utf8_lossy(&ran.stdout);
+    assert_eq!(ran.status.code(), Some(3), "{}", out);
+    assert!(out.contains("\"sleep\" of user "), "{}", out);
+    assert!(out.ends_with("the report isn't whole: it takes more time than its limit, 5 s\n"), "{}", out);
 }
 
 /// Control characters in names don't reach a terminal or a log, and no part of a name leaves the folder.
@@ -200,10 +230,10 @@ fn a_handler_is_alone_and_ends() {
 fn hostile_names() {
     let folder = Folder::new("handler-names");
     folder.run("mkdir -p $'a\\nsignal 9\\e[31m' && cp /bin/sleep $'a\\nsignal 9\\e[31m/..\\n\\e]0;x'");
-    let handler = format!("{} stack --handler $!", env!("CARGO_BIN_EXE_dwcheck-elf"));
+    let process = sleeper(folder.file("a\nsignal 9\u{1b}[31m/..\n\u{1b}]0;x"));
+    let handler = format!("{} stack {} --handler {}", env!("CARGO_BIN_EXE_dwcheck-elf"), PATIENT, process.id());
     folder.run(&format!(
-        "$'./a\\nsignal 9\\e[31m/..\\n\\e]0;x' 60 & sleep 0.3; {0} < /dev/null > out 2> /dev/null; \
-         {0} --output reports < /dev/null 2> /dev/null; kill $!; true",
+        "{0} < /dev/null > out 2> /dev/null; {0} --output reports < /dev/null 2> /dev/null; true",
         handler
     ));
     let out = String::from_utf8_lossy(&folder.bytes("out")).into_owned();
