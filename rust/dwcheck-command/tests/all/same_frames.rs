@@ -60,6 +60,24 @@ fn of_profile(folder: &Folder, recording: &str) -> Vec<String> {
     functions(lines).into_iter().map(str::to_string).collect()
 }
 
+/// The functions of the first sample that perf takes of a process. `None` if the machine forbids perf.
+fn of_perf(folder: &Folder, id: u32) -> Option<Vec<String>> {
+    // The longest time would fill the disk at perf's own rate of samples.
+    let words = "perf record -F 100 -e cpu-clock:u --call-graph dwarf,16384 -o own.perf";
+    // While others run, the process may get no time, and has no sample then.
+    for seconds in ["0.3", "3", "30"] {
+        let line = format!("{} -p {} -- sleep {} > perf.log 2>&1 && echo recorded || true", words, id, seconds);
+        if folder.run(&line) != "recorded\n" {
+            return None;
+        }
+        let functions = of_profile(folder, "own.perf");
+        if !functions.is_empty() {
+            return Some(functions);
+        }
+    }
+    Some(Vec::new())
+}
+
 /// What perf would have recorded where the core file `core` has the first thread: its registers, its stack and the mapped
 /// files.
 fn sampled(folder: &Folder) -> Vec<u8> {
@@ -102,10 +120,10 @@ fn the_same_stop_has_the_same_frames_in_a_process_a_core_file_and_a_profile() {
     folder.write("made.perf", sampled(&folder));
     assert_eq!(of_profile(&folder, "made.perf"), FUNCTIONS);
 
-    let words = "perf record -e cpu-clock:u --call-graph dwarf,16384 -o own.perf";
-    let recorded = format!("{} -p {} -- sleep 0.3 > perf.log 2>&1 && echo recorded || true", words, process.id());
-    match folder.run(&recorded).as_str() {
-        "recorded\n" => assert_eq!(of_profile(&folder, "own.perf"), FUNCTIONS),
-        _ => eprintln!("note: the machine forbids perf, so only a recording that was made of the core file was read"),
+    match of_perf(&folder, process.id()) {
+        Some(functions) => assert_eq!(functions, FUNCTIONS),
+        None => {
+            eprintln!("note: the machine forbids perf, so only a recording that was made of the core file was read")
+        }
     }
 }
