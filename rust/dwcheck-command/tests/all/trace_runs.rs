@@ -36,10 +36,15 @@ impl Started {
     }
 
     fn status(&self, name: &str) -> String {
-        let status = std::fs::read_to_string(format!("/proc/{}/status", self.0.id())).unwrap();
-        let line = status.lines().find_map(|line| line.strip_prefix(name)).unwrap();
-        line.trim().to_string()
+        status_of(&self.0.id().to_string(), name)
     }
+}
+
+/// What the kernel says of a process by this name. Empty if there is no such process.
+fn status_of(pid: &str, name: &str) -> String {
+    let status = std::fs::read_to_string(format!("/proc/{}/status", pid)).unwrap_or_default();
+    let line = status.lines().find_map(|line| line.strip_prefix(name)).unwrap_or_default();
+    line.trim().to_string()
 }
 
 impl Drop for Started {
@@ -282,12 +287,15 @@ fn what_it_starts_goes_on() {
         return;
     }
     let folder = Folder::new("trace-starts");
+    // It ends at some time also if the test fails.
+    let waits = "for ((i = 0; i < 6000; i++)); do [ -e go ] && break; sleep 0.1; done; [ -e go ] && echo late > late";
     for option in ["", "--follow-fork"] {
-        let traced = trace(&folder, option, "bash -c '(sleep 4; echo late > late) > /dev/null 2>&1 & echo first'");
+        let traced = trace(&folder, option, &format!("bash -c '({}) > /dev/null 2>&1 & echo first'", waits));
         assert_eq!((traced.status, traced.out.as_str()), (0, "first\n"), "{}", traced.log);
         assert!(!folder.file("late").exists());
+        folder.write("go", "");
         assert!(comes_true(|| folder.file("late").exists()), "{:?}", option);
-        folder.run("rm late");
+        folder.run("rm go late");
     }
     let traced = trace(&folder, "--follow-fork", "bash -c '/bin/true; /bin/true; exit 4'");
     assert_eq!((traced.status, traced.count("processes"), traced.count("programs")), (4, 3.0, 2.0), "{}", traced.log);
@@ -345,8 +353,8 @@ fn a_process_that_runs() {
         std::thread::sleep(Duration::from_millis(60));
         tracer.kill().unwrap();
         tracer.wait().unwrap();
-        assert!(comes_true(|| process.status("TracerPid:") == "0"));
-        assert_eq!(process.status("State:"), "R (running)");
+        // The process that steps it may still end a window.
+        assert!(comes_true(|| process.status("TracerPid:") == "0" && process.status("State:") == "R (running)"));
     }
 }
 
@@ -405,10 +413,10 @@ fn a_process_that_is_traced_already() {
         Started(command.args(["trace", "--", "./mysleeper", "1000"]).current_dir(folder.path()).spawn().unwrap());
     let children = format!("/proc/{0}/task/{0}/children", first.0.id());
     let child = || std::fs::read_to_string(&children).unwrap_or_default().trim().to_string();
-    assert!(comes_true(|| !child().is_empty()));
-    std::thread::sleep(Duration::from_millis(300));
+    let tracer = first.0.id().to_string();
+    assert!(comes_true(|| status_of(&child(), "TracerPid:") == tracer));
     let ran = dwcheck_elf(&folder, &format!("trace --pid {}", child()));
     assert_eq!(ran.status, 3, "{}", ran.error);
-    assert!(ran.error.contains(&format!("the process {} traces it already", first.0.id())), "{}", ran.error);
+    assert!(ran.error.contains(&format!("the process {} traces it already", tracer)), "{}", ran.error);
     first.0.kill().unwrap();
 }

@@ -5,13 +5,16 @@ use std::io::Read;
 use std::process::{Child, Command, Stdio};
 use std::time::{Duration, Instant};
 
-/// Waits at most a minute until something is so.
+/// Waits until something is so, at most ten minutes, which only end a test that would wait forever.
 pub fn comes_true(is_true: impl Fn() -> bool) -> bool {
     let begin = Instant::now();
-    while !is_true() && begin.elapsed() < Duration::from_secs(60) {
+    while begin.elapsed() < Duration::from_secs(600) {
+        if is_true() {
+            return true;
+        }
         std::thread::sleep(Duration::from_millis(20));
     }
-    is_true()
+    false
 }
 
 /// A process that ends with the test.
