@@ -79,8 +79,9 @@ fn output_status_and_signals_are_the_programs_own() {
         return;
     }
     let folder = Folder::new("trace-own");
-    folder.write("script", "#!/bin/sh\necho \"$1 $0\"; exit 5\n");
-    folder.run("chmod +x script");
+    // A file that this process writes can't be run while another test's new process still has it open.
+    folder.write("text", "#!/bin/sh\necho \"$1 $0\"; exit 5\n");
+    folder.run("cp text script && chmod +x script");
     for line in [
         "bash -c 'cat; echo error >&2; exit 7' < script",
         "bash -c 'kill -SEGV $$'",
@@ -385,7 +386,8 @@ fn what_cannot_be_traced_is_refused() {
     let folder = Folder::new("trace-refused");
     folder.write("says.c", "#include <stdio.h>\nint main(void) { return puts(\"ran\") < 0; }\n");
     folder.run("gcc -m32 says.c -o narrow && gcc says.c -o wide && chmod 4755 wide && chmod 755 .");
-    std::fs::copy(env!("CARGO_BIN_EXE_dwcheck-elf"), folder.file("tool")).unwrap();
+    // A file that this process writes can't be run while another test's new process still has it open.
+    folder.run(concat!("cp ", env!("CARGO_BIN_EXE_dwcheck-elf"), " tool"));
     let user = "$([ $(id -u) = 0 ] && echo setpriv --reuid 65534 --regid 65534 --clear-groups)";
     for (line, why) in [
         ("./tool trace -- ./narrow", "/narrow isn't a 64-bit program for x86-64"),
