@@ -26,7 +26,7 @@ pub fn may_trace_programs() -> bool {
 pub fn trace(folder: &Folder, options: &str, line: &str) -> Traced {
     let program = env!("CARGO_BIN_EXE_dwcheck-elf");
     // A program that hangs is ended, so that its test fails.
-    let shell = format!("exec timeout --foreground 300 {} trace {} --output log -- {}", program, options, line);
+    let shell = format!("exec timeout --foreground 1800 {} trace {} --output log -- {}", program, options, line);
     let output = Command::new("bash").args(["-c", &shell]).current_dir(folder.path()).output().unwrap();
     let error = String::from_utf8_lossy(&output.stderr).into_owned();
     assert!(!error.contains("panicked"), "{}", error);
