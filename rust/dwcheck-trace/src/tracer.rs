@@ -104,8 +104,9 @@ impl Tracer<'_, '_> {
     pub fn run(&mut self, words: &[OsString]) -> Result<End, TraceError> {
         self.main = start_program(words)?;
         let alarm = Alarm::install(Asked::Passed);
-        let begin = Instant::now();
         self.begin_program()?;
+        // Reading the tables of the program and of ld.so, before it runs, may take long.
+        let begin = Instant::now();
         loop {
             if let Some(signal) = alarm.take() {
                 ptrace::send(self.main, signal);

@@ -325,10 +325,10 @@ fn a_program_is_let_go() {
     folder.run("gcc -O1 loops.c -o loops");
     let own = folder.run("./loops 300000");
     let begin = Instant::now();
-    let traced = trace(&folder, "--all --seconds 1", "./loops 300000");
+    let traced = trace(&folder, "--all --seconds 5", "./loops 300000");
     assert_eq!((traced.status, &traced.out), (0, &own), "{}", traced.log);
     // Step by step, it would take hours.
-    assert!(begin.elapsed() < Duration::from_secs(60));
+    assert!(begin.elapsed() < Duration::from_secs(600));
     assert!(traced.count("steps") > 1000.0, "{}", traced.log);
 }
 
