@@ -16,6 +16,7 @@ use dwcheck_lint::instruction::Effect;
 use nix::errno::Errno;
 use nix::sys::ptrace::Options;
 use std::cell::RefCell;
+use std::collections::HashSet;
 use std::rc::Rc;
 use std::time::{Duration, Instant};
 
@@ -25,7 +26,8 @@ const WINDOW: u64 = 3_000;
 /// How long the process runs between.
 const PAUSE: Duration = Duration::from_millis(10);
 
-/// How long a thread is waited for that was asked to stop.
+/// How long a thread is waited for that was asked to stop. One that waits in the kernel stops later, or, at the
+/// end, runs on when this program ends.
 const PATIENCE: Duration = Duration::from_secs(1);
 
 impl Tracer<'_, '_> {
@@ -49,46 +51,66 @@ impl Tracer<'_, '_> {
         let alarm = Alarm::install(Asked::Noted);
         let begin = Instant::now();
         let is_over = |tracer: &Self| tracer.options.time.map_or(false, |time| begin.elapsed() >= time);
+        let mut asked = HashSet::new();
         while !is_over(self) && alarm.take().is_none() {
             let threads = match process.threads() {
                 Ok(threads) => threads,
                 Err(_) => break,
             };
-            for tid in
-                threads.into_iter().filter_map(|tid| Tid::try_from(tid).ok()).filter(|tid| is_running_thread(pid, *tid))
-            {
-                self.sample_thread(tid)?;
+            for tid in threads.into_iter().filter_map(|tid| Tid::try_from(tid).ok()) {
+                if !asked.contains(&tid) && is_running_thread(pid, tid) {
+                    self.sample_thread(tid, &mut asked)?;
+                }
             }
+            while self.sample_stopped(&mut asked) {}
             std::thread::sleep(PAUSE);
         }
+        self.sample_asked(&mut asked, |asked| !asked.is_empty());
         self.counts.time = begin.elapsed();
         Ok(End::Released)
     }
 
-    /// Steps a thread for a short time.
-    fn sample_thread(&mut self, tid: Tid) -> Result<(), TraceError> {
+    /// Steps a thread for a short time. If it doesn't stop soon, it stays among those that were asked to.
+    fn sample_thread(&mut self, tid: Tid, asked: &mut HashSet<Tid>) -> Result<(), TraceError> {
         match ptrace::seize(tid, Options::empty()) {
             Ok(()) => {}
             Err(Errno::ESRCH) => return Ok(()),
             Err(error) => return Err(TraceError::NotTraced(error)),
         }
         ptrace::interrupt(tid);
+        asked.insert(tid);
+        self.sample_asked(asked, |asked| asked.contains(&tid));
+        Ok(())
+    }
+
+    /// Waits a while for threads that were asked to stop, as long as some are awaited, and steps them.
+    fn sample_asked(&mut self, asked: &mut HashSet<Tid>, is_awaited: impl Fn(&HashSet<Tid>) -> bool) {
         let begin = Instant::now();
-        let signal = loop {
-            match ptrace::poll() {
-                Ok(Some((_, Report::Signal(signal)))) => break signal,
-                Ok(Some((_, Report::Exited(_) | Report::Killed(_)))) => return Ok(()),
-                Ok(Some((_, Report::GroupStop | Report::Stop))) => break 0,
-                Ok(None) if begin.elapsed() > PATIENCE => return Ok(()),
-                Ok(_) | Err(Errno::EINTR) => std::thread::yield_now(),
-                Err(_) => return Ok(()),
+        while is_awaited(asked) && begin.elapsed() <= PATIENCE {
+            if !self.sample_stopped(asked) {
+                std::thread::yield_now();
             }
+        }
+    }
+
+    /// Steps a thread that has stopped for a short time, and lets it go. Returns false if none has.
+    fn sample_stopped(&mut self, asked: &mut HashSet<Tid>) -> bool {
+        let (tid, signal) = match ptrace::poll() {
+            Ok(Some((tid, Report::Exited(_) | Report::Killed(_)))) => (tid, None),
+            Ok(Some((tid, Report::Signal(signal)))) => (tid, Some(signal)),
+            Ok(Some((tid, _))) => (tid, Some(0)),
+            Err(Errno::ECHILD) => {
+                // No thread is traced. One that runs another program gets the id of the first one.
+                asked.clear();
+                return false;
+            }
+            Ok(None) | Err(_) => return false,
         };
-        let signal = self.sample_window(tid, signal);
-        if let Some(signal) = signal {
+        asked.remove(&tid);
+        if let Some(signal) = signal.and_then(|signal| self.sample_window(tid, signal)) {
             ptrace::detach(tid, signal);
         }
-        Ok(())
+        true
     }
 
     /// Steps a stopped thread up to a system call, or until it is enough. Returns the signal that it gets

@@ -359,6 +359,53 @@ fn a_process_that_runs() {
     }
 }
 
+const SLOW_STOPS: &str = "
+#include <fcntl.h>
+#include <sys/mman.h>
+#include <sys/prctl.h>
+#include <time.h>
+#include <unistd.h>
+static double map_zeros(size_t size) {
+    struct timespec begin, end;
+    clock_gettime(CLOCK_MONOTONIC, &begin);
+    void *zeros = mmap(NULL, size, PROT_READ, MAP_PRIVATE | MAP_ANONYMOUS | MAP_NORESERVE | MAP_POPULATE, -1, 0);
+    if (zeros == MAP_FAILED) _exit(1);
+    munmap(zeros, size);
+    clock_gettime(CLOCK_MONOTONIC, &end);
+    return end.tv_sec - begin.tv_sec + (end.tv_nsec - begin.tv_nsec) / 1e9;
+}
+int main(void) {
+    prctl(PR_SET_THP_DISABLE, 1, 0, 0, 0);
+    int rounds = creat(\"rounds\", 0600);
+    size_t size = ((size_t)(2 / map_zeros(1ul << 30)) + 1) << 30;
+    while (write(rounds, \".\", 1) == 1) map_zeros(size);
+    return 1;
+}
+";
+
+/// A thread that runs in the kernel for seconds before it can stop is waited for, and goes on each time.
+#[test]
+fn a_thread_that_stops_late() {
+    if !may_trace_programs() {
+        return;
+    }
+    let folder = Folder::new("trace-late");
+    folder.write("maps.c", SLOW_STOPS);
+    folder.run("gcc -O1 maps.c -o maps");
+    let process = Started::new(&folder, &["maps"]);
+    let rounds = || std::fs::read(folder.file("rounds")).unwrap_or_default().len();
+    assert!(comes_true(|| rounds() > 0));
+    let mut command = Command::new(env!("CARGO_BIN_EXE_dwcheck-elf"));
+    let options = ["trace", "--seconds", "3600", "--output", "log", "--pid", &process.0.id().to_string()];
+    let mut tracer = Started(command.args(options).current_dir(folder.path()).spawn().unwrap());
+    assert!(comes_true(|| process.status("TracerPid:") != "0"));
+    let before = rounds();
+    assert!(comes_true(|| rounds() > before + 2));
+    assert!(tracer.0.try_wait().unwrap().is_none());
+    drop(tracer);
+    assert!(comes_true(|| process.status("TracerPid:") == "0" && process.status("State:") == "R (running)"));
+}
+
 /// A program that was started ends with the tracer if that is killed; its breakpoints would end it anyway.
 #[test]
 fn a_killed_tracer_leaves_nothing_stopped() {
