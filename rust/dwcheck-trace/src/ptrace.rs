@@ -118,6 +118,13 @@ pub fn registers(tid: Tid) -> Result<Registers, Errno> {
     Ok(Registers::of(&ptrace::getregs(Pid::from_raw(tid))?))
 }
 
+/// Whether a stopped thread goes on with a system call that it begins again, and that may wait (ERESTARTSYS to
+/// ERESTART_RESTARTBLOCK).
+pub fn begins_call_again(tid: Tid) -> Result<bool, Errno> {
+    let raw = ptrace::getregs(Pid::from_raw(tid))?;
+    Ok(raw.orig_rax as i64 >= 0 && (-516..=-512).contains(&(raw.rax as i64)))
+}
+
 /// Sets the address of the next instruction of a thread that a trap has stopped.
 pub fn set_program_counter(tid: Tid, address: u64) {
     let _ = set_word(tid, PROGRAM_COUNTER, address);

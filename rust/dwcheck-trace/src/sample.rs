@@ -121,6 +121,10 @@ impl Tracer<'_, '_> {
             // It goes on.
             _ => return Some(signal),
         };
+        // The thread may have stopped in a call that waits, and a step would wait as long.
+        if ptrace::begins_call_again(tid).ok()? {
+            return Some(signal);
+        }
         space.refresh(&mut self.files);
         let mut thread = Thread::new(tid, Rc::new(RefCell::new(other)));
         thread.mode = Mode::Stepping;

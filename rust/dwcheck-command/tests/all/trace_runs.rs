@@ -343,7 +343,7 @@ fn a_process_that_runs() {
     folder.run("gcc -O1 loops.c -o loops");
     let process = Started::new(&folder, &["loops", "1000000000"]);
     let pid = process.0.id();
-    let ran = dwcheck_elf(&folder, &format!("trace --seconds 1 --module loops --output log --pid {}", pid));
+    let ran = dwcheck_elf(&folder, &format!("trace --seconds 5 --module loops --output log --pid {}", pid));
     let log = String::from_utf8_lossy(&folder.bytes("log")).into_owned();
     assert_eq!(ran.status, 0, "{}{}", ran.error, log);
     assert!(log.lines().any(|line| line.contains("/loops: fdes") && !line.contains("judged 0")), "{}", log);
