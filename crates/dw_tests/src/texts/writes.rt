@@ -1,6 +1,5 @@
 //! Tests of writing output to writers that accept few bytes per call, or that fail before the end.
 
-
 use crate::texts::cases::{WORKED, asked, files_of, parts_of, text_of};
 use dw_check::{End, Sink, Through, run};
 use std::alloc::AllocError;
