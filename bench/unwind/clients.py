@@ -145,7 +145,7 @@ def xvfb(folder, work):
         server = subprocess.Popen(FIXED + words_of(folder) + command, stdout=log, stderr=log, pass_fds=[written])
         os.close(written)
         begun.readline()
-        while not waits_for_clients(server):
+        while server.poll() is None and not waits_for_clients(server):
             time.sleep(0.05)
         server.send_signal(signal.SIGSEGV)
         server.wait(600)

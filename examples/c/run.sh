@@ -45,8 +45,11 @@ same_as_gdb() { # LEAST: the frames that an example printed are those that gdb p
     sed -n 's/^gdb \(0x[0-9a-f]*\)$/\1/p' "$out/gdb" | diff "$out/ours" - && [ "$(wc -l < "$out/ours")" -ge "$1" ]
 }
 
-until_it_waits() { # PROCESS: until it is in pause, if it doesn't end before. 34 is that call's number on x86-64.
-    while kill -0 "$1" && ! grep -q '^34 ' "/proc/$1/syscall"; do sleep 0.05; done
+until_it_waits() { # PROCESS: until it is in pause, at most a minute. 34 is that call's number on x86-64.
+    for _ in $(seq 600); do
+        ! grep -q '^34 ' "/proc/$1/syscall" || return 0
+        sleep 0.1
+    done
 }
 
 attached() { # the frames of a process that waits, beside gdb's
