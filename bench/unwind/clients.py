@@ -144,11 +144,15 @@ def xvfb(folder, work):
     with open(f"{work}/xvfb.log", "w+", encoding="utf-8") as log, open(display, encoding="utf-8") as begun:
         server = subprocess.Popen(FIXED + words_of(folder) + command, stdout=log, stderr=log, pass_fds=[written])
         os.close(written)
-        begun.readline()
-        while server.poll() is None and not waits_for_clients(server):
-            time.sleep(0.05)
-        server.send_signal(signal.SIGSEGV)
-        server.wait(600)
+        try:
+            begun.readline()
+            end = time.monotonic() + 60
+            while server.poll() is None and not waits_for_clients(server) and time.monotonic() < end:
+                time.sleep(0.05)
+            server.send_signal(signal.SIGSEGV)
+            server.wait(600)
+        finally:
+            server.kill()
         log.seek(0)
         lines = re.findall(r"^\(EE\) (\d+: .*) \[0x", log.read(), re.MULTILINE)
         return [re.sub(r"(\d+: )\S*/", r"\1", line) for line in lines]

@@ -47,16 +47,17 @@ same_as_gdb() { # LEAST: the frames that an example printed are those that gdb p
 
 until_it_waits() { # PROCESS: until it is in pause, at most a minute. 34 is that call's number on x86-64.
     for _ in $(seq 600); do
-        ! grep -q '^34 ' "/proc/$1/syscall" || return 0
+        ! grep -qs '^34 ' "/proc/$1/syscall" || return 0
         sleep 0.1
     done
+    return 1
 }
 
 attached() { # the frames of a process that waits, beside gdb's
     "$out/waiting" &
     sleeper=$!
     trap 'kill "$sleeper"; rm -rf "$out"' EXIT
-    until_it_waits "$sleeper"
+    until_it_waits "$sleeper" || return 1
     "$out/attach" $sleeper > "$out/frames" || return 1
     gdb -q -batch -ex "set backtrace past-main on" -x "$out/frames.py" -p $sleeper > "$out/gdb" 2>&1
     kill $sleeper

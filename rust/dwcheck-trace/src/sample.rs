@@ -26,9 +26,14 @@ const WINDOW: u64 = 3_000;
 /// How long the process runs between.
 const PAUSE: Duration = Duration::from_millis(10);
 
-/// How long a thread is waited for that was asked to stop. One that waits in the kernel stops later, or, at the
-/// end, runs on when this program ends.
+/// How long a thread is waited for that was asked to stop. One that is busy in the kernel stops later.
 const PATIENCE: Duration = Duration::from_secs(1);
+
+/// How long it is waited for at the end. If it stops after that, it goes on when this program ends.
+const LAST_PATIENCE: Duration = Duration::from_secs(10);
+
+/// How long this program sleeps while it waits for a thread.
+const NAP: Duration = Duration::from_micros(200);
 
 impl Tracer<'_, '_> {
     /// Steps the threads of a process in turn, until it ends, the time is over, or this program is asked
@@ -51,62 +56,73 @@ impl Tracer<'_, '_> {
         let alarm = Alarm::install(Asked::Noted);
         let begin = Instant::now();
         let is_over = |tracer: &Self| tracer.options.time.map_or(false, |time| begin.elapsed() >= time);
-        let mut asked = HashSet::new();
+        // The threads that were asked to stop, and that haven't yet.
+        let mut stopping = HashSet::new();
         while !is_over(self) && alarm.take().is_none() {
             let threads = match process.threads() {
                 Ok(threads) => threads,
                 Err(_) => break,
             };
             for tid in threads.into_iter().filter_map(|tid| Tid::try_from(tid).ok()) {
-                if !asked.contains(&tid) && is_running_thread(pid, tid) {
-                    self.sample_thread(tid, &mut asked)?;
+                if is_over(self) {
+                    break;
+                }
+                if !stopping.contains(&tid) && is_running_thread(pid, tid) {
+                    self.sample_thread(tid, &mut stopping)?;
                 }
             }
-            while self.sample_stopped(&mut asked) {}
+            while self.sample_stopped(&mut stopping) {}
             std::thread::sleep(PAUSE);
         }
-        self.sample_asked(&mut asked, |asked| !asked.is_empty());
+        self.sample_stopping(&mut stopping, LAST_PATIENCE, |stopping| !stopping.is_empty());
         self.counts.time = begin.elapsed();
         Ok(End::Released)
     }
 
-    /// Steps a thread for a short time. If it doesn't stop soon, it stays among those that were asked to.
-    fn sample_thread(&mut self, tid: Tid, asked: &mut HashSet<Tid>) -> Result<(), TraceError> {
+    /// Steps a thread for a short time. If it doesn't stop soon, it stays in `stopping`.
+    fn sample_thread(&mut self, tid: Tid, stopping: &mut HashSet<Tid>) -> Result<(), TraceError> {
         match ptrace::seize(tid, Options::empty()) {
             Ok(()) => {}
             Err(Errno::ESRCH) => return Ok(()),
+            // A thread that ends is refused in the same way as a process that may not be traced.
+            Err(Errno::EPERM) if self.counts.windows > 0 || !stopping.is_empty() => return Ok(()),
             Err(error) => return Err(TraceError::NotTraced(error)),
         }
         ptrace::interrupt(tid);
-        asked.insert(tid);
-        self.sample_asked(asked, |asked| asked.contains(&tid));
+        stopping.insert(tid);
+        self.sample_stopping(stopping, PATIENCE, |stopping| stopping.contains(&tid));
         Ok(())
     }
 
-    /// Waits a while for threads that were asked to stop, as long as some are awaited, and steps them.
-    fn sample_asked(&mut self, asked: &mut HashSet<Tid>, is_awaited: impl Fn(&HashSet<Tid>) -> bool) {
+    /// Steps threads that were asked to stop, when they do, as long as some are awaited and `patience` lasts.
+    fn sample_stopping(
+        &mut self,
+        stopping: &mut HashSet<Tid>,
+        patience: Duration,
+        is_awaited: impl Fn(&HashSet<Tid>) -> bool,
+    ) {
         let begin = Instant::now();
-        while is_awaited(asked) && begin.elapsed() <= PATIENCE {
-            if !self.sample_stopped(asked) {
-                std::thread::yield_now();
+        while is_awaited(stopping) && begin.elapsed() <= patience {
+            if !self.sample_stopped(stopping) {
+                std::thread::sleep(NAP);
             }
         }
     }
 
     /// Steps a thread that has stopped for a short time, and lets it go. Returns false if none has.
-    fn sample_stopped(&mut self, asked: &mut HashSet<Tid>) -> bool {
+    fn sample_stopped(&mut self, stopping: &mut HashSet<Tid>) -> bool {
         let (tid, signal) = match ptrace::poll() {
             Ok(Some((tid, Report::Exited(_) | Report::Killed(_)))) => (tid, None),
             Ok(Some((tid, Report::Signal(signal)))) => (tid, Some(signal)),
             Ok(Some((tid, _))) => (tid, Some(0)),
             Err(Errno::ECHILD) => {
                 // No thread is traced. One that runs another program gets the id of the first one.
-                asked.clear();
+                stopping.clear();
                 return false;
             }
             Ok(None) | Err(_) => return false,
         };
-        asked.remove(&tid);
+        stopping.remove(&tid);
         if let Some(signal) = signal.and_then(|signal| self.sample_window(tid, signal)) {
             ptrace::detach(tid, signal);
         }
@@ -149,16 +165,22 @@ impl Tracer<'_, '_> {
             }
         }
         thread.end_steps();
-        while ptrace::trap_waits(tid) {
-            ptrace::run(tid, 0);
-            match ptrace::wait_for_stop(tid).ok()? {
-                Report::Signal(libc::SIGTRAP) if ptrace::signal_code(tid).ok()? <= 0 => return Some(libc::SIGTRAP),
-                Report::Exited(_) | Report::Killed(_) => return None,
-                _ => {}
-            }
-        }
-        Some(Some(signal).filter(|signal| *signal != libc::SIGTRAP).unwrap_or(0))
+        signal_after_traps(tid, signal)
     }
+}
+
+/// Lets a thread take the traps of its steps that still wait. Returns the signal that it gets when it goes on, 0 if none.
+/// `None` if it ended.
+fn signal_after_traps(tid: Tid, signal: i32) -> Option<i32> {
+    while ptrace::trap_waits(tid) {
+        ptrace::run(tid, 0);
+        match ptrace::wait_for_stop(tid).ok()? {
+            Report::Signal(libc::SIGTRAP) if ptrace::signal_code(tid).ok()? <= 0 => return Some(libc::SIGTRAP),
+            Report::Exited(_) | Report::Killed(_) => return None,
+            _ => {}
+        }
+    }
+    Some(Some(signal).filter(|signal| *signal != libc::SIGTRAP).unwrap_or(0))
 }
 
 /// Whether a thread runs, and doesn't wait in the kernel.

@@ -377,7 +377,9 @@ static double map_zeros(size_t size) {
 int main(void) {
     prctl(PR_SET_THP_DISABLE, 1, 0, 0, 0);
     int rounds = creat(\"rounds\", 0600);
-    size_t size = ((size_t)(2 / map_zeros(1ul << 30)) + 1) << 30;
+    double least = map_zeros(1ul << 30);
+    for (int i = 0; i < 3; i++) { double time = map_zeros(1ul << 30); if (time < least) least = time; }
+    size_t size = ((size_t)(2 / least) + 1) << 30;
     while (write(rounds, \".\", 1) == 1) map_zeros(size);
     return 1;
 }
@@ -398,7 +400,7 @@ fn a_thread_that_stops_late() {
     let mut command = Command::new(env!("CARGO_BIN_EXE_dwcheck-elf"));
     let options = ["trace", "--seconds", "3600", "--output", "log", "--pid", &process.0.id().to_string()];
     let mut tracer = Started(command.args(options).current_dir(folder.path()).spawn().unwrap());
-    assert!(comes_true(|| process.status("TracerPid:") != "0"));
+    assert!(comes_true(|| !["0", ""].contains(&process.status("TracerPid:").as_str())));
     let before = rounds();
     assert!(comes_true(|| rounds() > before + 2));
     assert!(tracer.0.try_wait().unwrap().is_none());
